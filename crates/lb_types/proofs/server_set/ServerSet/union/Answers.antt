@@ -1,0 +1,5 @@
+use Rattle.lb_types.proofs.Sets.{has-union}
+use Rattle.lb_types.proofs.server_set.ServerSet.union.Goals as goal
+
+pub returns-clause-members : goal.returns-clause-members
+returns-clause-members c s = rw (c.self.view_is, c.other.view_is) (has-union c.args.self c.args.other s)

@@ -1,0 +1,3 @@
+pub mod NameFields
+pub mod Names
+pub mod Servers

@@ -1,0 +1,18 @@
+//! The small values that every layer speaks of: servers, sets of servers, places, moments and names.
+//!
+//! Promised: a set is exactly the servers that were put into it, and a name is 1 to 64 lawful bytes.
+//! Start at `ServerSet`, whose definition is in `specs/Servers.antt`.
+#![tactic(auto)]
+
+mod moment;
+mod name;
+mod server_id;
+mod server_set;
+
+pub use moment::Moment;
+pub use name::{Name, NameFault};
+pub use server_id::{Place, ServerId};
+pub use server_set::ServerSet;
+
+#[cfg(test)]
+mod tests;

@@ -1,0 +1,43 @@
+ghost use Rattle.std.specs.Prelude.{◌≡◌, ℕ, ◌<◌};
+
+use std::marker::Model;
+
+/// A server of a backend, by its place in the configuration's order, counted from 0.
+#[derive(Clone, Copy, Debug, PartialEq, Eq, PartialOrd, Ord, Hash)]
+pub struct ServerId {
+    index: u8,
+}
+
+/// Where a pin is: at a server, or nowhere. Nowhere comes first in the order of places.
+pub type Place = Option<ServerId>;
+
+impl Model for ServerId {
+    ghost Value = { ℕ };
+
+    ghost view = { λ server. server.index };
+
+    ghost invariant = { λ server. server.index < 128 };
+
+    ghost inverse = { λ index. record { index = index } };
+}
+
+impl ServerId {
+    /// How many servers a backend may have.
+    pub const LIMIT: usize = 128;
+
+    /// The server at `index`, which is 0 to 127.
+    pub fn new(index: u8) -> Self
+        requires { index < 128 }
+        ensures { result ≡ index }
+    {
+        ServerId { index }
+    }
+
+    /// The server's place in the configuration's order, 0 to 127.
+    pub fn index(self) -> usize
+        ensures exact { result ≡ self }
+        ensures below_limit { result < 128 }
+    {
+        usize::from(self.index)
+    }
+}

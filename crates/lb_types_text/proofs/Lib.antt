@@ -1,0 +1,4 @@
+pub mod Cuts
+pub mod Joins
+pub mod Numerals
+pub mod Values

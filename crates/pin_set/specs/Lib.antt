@@ -1,0 +1,5 @@
+pub mod Assignments
+pub mod Costs
+pub mod Pins
+pub mod Rows
+pub mod Views

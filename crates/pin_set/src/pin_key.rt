@@ -1,0 +1,103 @@
+ghost use Rattle.std.specs.Prelude.{◌≡◌, IfOk, nat_eq};
+ghost use Rattle.std.specs.Hash as fed;
+ghost use Rattle.std.specs.Cmp.Lexicographic.{pointwise, nat_list_eq_equiv};
+ghost use Rattle.std.specs.Cmp.{partial_equiv_from_equiv};
+ghost use Rattle.std.specs.Cmp.Rules.{hashing};
+ghost use Rattle.std.proofs.Common.{rules};
+
+use std::alloc::{AllocError, Global};
+use std::fmt;
+use std::hash::{Hash, Hasher};
+use std::marker::Model;
+use std::net::Ipv4Addr;
+
+/// What a backend's `stick on` pattern found in a request, as the table's type has it.
+#[derive(Clone, Debug, Drop, PartialEq, Eq, Hash)]
+pub enum PinKey {
+    /// The key of a table of type `ip`.
+    Ipv4(Ipv4Addr),
+    /// The key of a table of type `string`.
+    Text(KeyText),
+}
+
+/// The bytes of a key in a table of type `string`.
+#[derive(Drop)]
+pub struct KeyText {
+    bytes: Vec<u8>,
+}
+
+impl Model for KeyText {
+    ghost use Rattle.std.specs.Prelude.{List, ℕ};
+
+    ghost Value = { List ℕ };
+
+    ghost view = { λ text. text.bytes.items };
+}
+
+impl KeyText {
+    /// The key of these bytes.
+    pub fn new(bytes: Vec<u8>) -> Self
+        ensures { result ≡ bytes.items }
+    {
+        KeyText { bytes }
+    }
+
+    /// The bytes of the key, copied.
+    pub fn copied_from(alloc: Global, bytes: &[u8]) -> Result<KeyText, AllocError>
+        ensures { IfOk result (λ text. text ≡ bytes.now) }
+    {
+        Ok(KeyText {
+            bytes: Vec::from_slice(alloc, bytes)?,
+        })
+    }
+
+    /// The bytes of the key.
+    pub fn as_bytes(&self) -> &[u8]
+        ensures { result.now ≡ self.now }
+    {
+        &self.bytes
+    }
+}
+
+impl Clone for KeyText {
+    ghost is_clone = { λ text copy. copy ≡ text };
+
+    fn clone(&self) -> Result<KeyText, AllocError> {
+        Ok(KeyText {
+            bytes: self.bytes.clone()?,
+        })
+    }
+}
+
+impl PartialEq for KeyText {
+    ghost eq = { pointwise nat_eq };
+
+    ghost laws = { partial_equiv_from_equiv nat_list_eq_equiv };
+
+    fn eq(&self, other: &KeyText) -> bool {
+        self.as_bytes() == other.as_bytes()
+    }
+}
+
+impl Eq for KeyText {
+    ghost laws = { nat_list_eq_equiv };
+}
+
+impl Hash for KeyText {
+    ghost hash_input = { fed.slice fed.u8 };
+
+    ghost respects_eq = { Prim.search (hashing, rules) };
+
+    fn hash<H: Hasher>(&self, state: &mut H) {
+        self.as_bytes().hash(state);
+    }
+}
+
+impl fmt::Debug for KeyText {
+    fn fmt<W: fmt::Write>(&self, f: &mut fmt::Formatter<W>) -> fmt::Result {
+        for byte in self.as_bytes() {
+            f.write_char(char::from(*byte))?;
+        }
+        Ok(())
+    }
+}
