@@ -1,0 +1,9 @@
+pub mod Bodies
+pub mod Members
+pub mod PlanLaws
+pub mod RowTexts
+pub mod ServerTexts
+pub mod SetWords
+pub mod Steps
+pub mod Totals
+pub mod WholeTexts

@@ -1,0 +1,2 @@
+pub mod OwnSheet
+pub mod Walk
