@@ -1,0 +1,6 @@
+pub mod Bounds
+pub mod Decided
+pub mod Loads
+pub mod Means
+pub mod Steps
+pub mod Walks

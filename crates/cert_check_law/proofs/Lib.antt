@@ -1,0 +1,5 @@
+pub mod Agreeing
+pub mod Duality
+pub mod Sums
+pub mod Views
+pub mod Weights
