@@ -1,0 +1,22 @@
+-- What a `Health` shows: its settings, how the server counts, and how much speaks against that.
+use Rattle.std.specs.Prelude.{ℕ, Bool, ◌≤◌, ◌<◌, if◌then◌else◌}
+
+pub record Tally : Type 0 where
+  pub rise : ℕ
+  pub fall : ℕ
+  -- the server counts as up
+  pub up : Bool
+  -- how many results in a row, up to the last one, say the other thing
+  pub against : ℕ
+
+-- how many results in a row turn a server that counts so
+abbrev pub needed : ℕ → ℕ → Bool → ℕ
+needed rise fall up = if up then fall else rise
+
+-- the settings are in range, and too little speaks against the health for it to have turned
+pub record IsTally (rise fall : ℕ) (up : Bool) (against : ℕ) : Type 0 where
+  pub rise_from : 1 ≤ rise
+  pub rise_to : rise ≤ 1000
+  pub fall_from : 1 ≤ fall
+  pub fall_to : fall ≤ 1000
+  pub short : against < needed rise fall up
