@@ -1,0 +1,51 @@
+-- What `verify` finds of a text, and the line that it prints.
+use Rattle.std.specs.Prelude.{ℕ, Bool, true, false, ◌==◌, List, [], ◌∷◌, ◌++◌, codes, Result, Ok, Err, if◌then◌else◌}
+use Rattle.std.specs.Fmt.{decimal}
+use Rattle.pin_set.specs.declared.totals.Score.{Score}
+use Rattle.dual_cert_plan.specs.Plans.{PlanParts, own_sheet}
+use Rattle.dual_cert.specs.declared.fault.TextFault.{TextFault}
+use Rattle.dual_cert.specs.Faults.{fault_text}
+use Rattle.dual_cert.specs.PlanTexts.{plan_of_text}
+use Rattle.cert_check.specs.declared.fault.CheckFault.{CheckFault}
+use Rattle.cert_check.specs.Faults.{fault_text as check_fault_text}
+use Rattle.cert_check.specs.Verdict.{verdict}
+use Rattle.lb_cli.specs.declared.finding.Finding.{Finding}
+use Rattle.lb_cli.specs.declared.finding.Finding.TheVariants.{Best, NoPlan, Refused}
+
+-- what the checker says of a plan and the sheet that it speaks of
+abbrev pub finding_of_verdict : Result Score CheckFault → Finding
+finding_of_verdict (Ok score) = Best score
+finding_of_verdict (Err fault) = Refused fault
+
+abbrev pub finding_of_reading : Result PlanParts TextFault → Finding
+finding_of_reading (Ok plan) = finding_of_verdict (verdict (own_sheet plan) plan)
+finding_of_reading (Err fault) = NoPlan fault
+
+-- what is found of a text: the plan that it spells, and the checker's verdict on it
+abbrev pub finding_of : List ℕ → Finding
+finding_of text = finding_of_reading (plan_of_text text)
+
+abbrev pub is_best : Finding → Bool
+is_best (Best score) = true
+is_best _ = false
+
+-- a number behind its label
+abbrev pub labelled : List ℕ → ℕ → List ℕ
+labelled label number = label ++ decimal number
+
+abbrev pub score_words : Score → List ℕ
+score_words score =
+    labelled (codes "best pins ") score.pins ++ labelled (codes " unplaced ") score.unplaced ++ labelled (codes " moved ") score.moved
+
+-- the cost is told where it isn't the number of moved pins
+abbrev pub score_line : Score → List ℕ
+score_line score = if score.cost == score.moved then score_words score else score_words score ++ labelled (codes " cost ") score.cost
+
+abbrev pub finding_text : Finding → List ℕ
+finding_text (Best score) = score_line score
+finding_text (NoPlan fault) = fault_text fault
+finding_text (Refused fault) = check_fault_text fault
+
+-- the finding as it is printed
+abbrev pub line_of : Finding → List ℕ
+line_of finding = finding_text finding ++ 10 ∷ []

@@ -1,0 +1,19 @@
+//! The jobs of the program `stickylb`, each over a reader and a writer, so that what it writes for a file's bytes is a
+//! stated function of these bytes.
+//!
+//! Promised: `verify` writes the line of `specs/Verify.antt` for its text, and nothing else. Start there, and at `perform`,
+//! which finds the job's files and tells the program's exit status.
+#![tactic(auto)]
+
+mod finding;
+mod job_error;
+mod jobs;
+mod verify_job;
+
+pub use finding::Finding;
+pub use job_error::JobError;
+pub use jobs::perform;
+pub use verify_job::verify;
+
+#[cfg(test)]
+mod tests;

@@ -1,0 +1,5 @@
+pub mod Word
+pub mod Judgement
+pub mod OneFile
+pub mod AllWords
+pub mod Parsed

@@ -1,0 +1,4 @@
+pub mod ExitStatus
+pub mod Words
+pub mod Table
+pub mod Clap

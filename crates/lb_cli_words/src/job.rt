@@ -1,0 +1,6 @@
+/// What the words ask the program to do: a row of its table of commands, with the files that it names.
+#[derive(Clone, Copy, Debug, PartialEq, Eq)]
+pub enum Job<'a> {
+    /// `verify <file>`: check the plan in the file against its own sheet.
+    Verify { file: &'a str },
+}

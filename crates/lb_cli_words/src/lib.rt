@@ -1,0 +1,20 @@
+//! The words of the command line.
+//!
+//! Promised of `read_words`: exactly the words that are a row of the table of commands give its job, so long as memory is
+//! there; of the others, exactly those that ask for help give help's text, and the rest the text of a mistake.
+//! The table is `specs/Table.antt`, and how words are read is `specs/Words.antt`. Start at `read_words`.
+#![tactic(auto)]
+
+mod error;
+mod job;
+mod verify;
+mod words;
+
+pub use clap::Error;
+pub use clap::error::ErrorKind;
+pub use error::exit_status;
+pub use job::Job;
+pub use words::read_words;
+
+#[cfg(test)]
+mod tests;

@@ -1,0 +1,105 @@
+use crate::{ErrorKind, Job, exit_status, read_words};
+use std::test::Fail;
+
+#[test]
+fn verify_takes_one_file(rt: HostRuntime) -> Result<(), Fail> {
+    let cases: [(&[&str], &str); 8] = [
+        (&["stickylb", "verify", "row3.plan"], "row3.plan"),
+        (&["./another name", "verify", "a plan"], "a plan"),
+        (&["stickylb", "verify", "row3.plan", "--"], "row3.plan"),
+        (&["stickylb", "verify", "--", "row3.plan"], "row3.plan"),
+        (&["stickylb", "verify", "--", "--help"], "--help"),
+        (&["stickylb", "verify", "--", "--"], "--"),
+        (&["stickylb", "verify", "-"], "-"),
+        (&["stickylb", "verify", "verify"], "verify"),
+    ];
+    for (words, file) in cases {
+        assert_eq!(rt;
+            read_words(rt.alloc(), words)?,
+            Job::Verify { file },
+            "at {words:?}"
+        );
+    }
+    Ok(())
+}
+
+#[test]
+fn other_words_are_refused(rt: HostRuntime) -> Result<(), Fail> {
+    let cases: [(&[&str], ErrorKind); 9] = [
+        (
+            &["stickylb"],
+            ErrorKind::DisplayHelpOnMissingArgumentOrSubcommand,
+        ),
+        (&["stickylb", "balance"], ErrorKind::InvalidSubcommand),
+        (&["stickylb", "Verify", "a"], ErrorKind::InvalidSubcommand),
+        (
+            &["stickylb", "--fast", "verify", "a"],
+            ErrorKind::UnknownArgument,
+        ),
+        (&["stickylb", "verify"], ErrorKind::MissingRequiredArgument),
+        (
+            &["stickylb", "verify", "--"],
+            ErrorKind::MissingRequiredArgument,
+        ),
+        (
+            &["stickylb", "verify", "a", "b"],
+            ErrorKind::UnknownArgument,
+        ),
+        (
+            &["stickylb", "verify", "-f", "a"],
+            ErrorKind::UnknownArgument,
+        ),
+        (
+            &["stickylb", "verify", "--help=a"],
+            ErrorKind::TooManyValues,
+        ),
+    ];
+    for (words, kind) in cases {
+        let error = read_words(rt.alloc(), words).err().ok_or("an error")?;
+        assert_eq!(rt; error.kind(), kind, "at {words:?}");
+        assert_eq!(rt; exit_status(&error), 2, "at {words:?}");
+        assert!(rt; error.use_stderr(), "at {words:?}");
+    }
+    Ok(())
+}
+
+#[test]
+fn help_ends_well(rt: HostRuntime) -> Result<(), Fail> {
+    let cases: [&[&str]; 5] = [
+        &["stickylb", "--help"],
+        &["stickylb", "-h"],
+        &["stickylb", "verify", "--help"],
+        &["stickylb", "verify", "-h"],
+        &["stickylb", "verify", "a", "--help"],
+    ];
+    for words in cases {
+        let error = read_words(rt.alloc(), words).err().ok_or("an error")?;
+        assert_eq!(rt; exit_status(&error), 0, "at {words:?}");
+        assert!(rt; !error.use_stderr(), "at {words:?}");
+    }
+    Ok(())
+}
+
+#[test]
+fn help_names_the_commands_and_their_files(rt: HostRuntime) -> Result<(), Fail> {
+    let cases: [(&[&str], &str); 3] = [
+        (
+            &["stickylb", "--help"],
+            "Usage: stickylb <COMMAND>\n\nCommands:\n  verify  Check that a plan",
+        ),
+        (
+            &["stickylb", "verify", "--help"],
+            "Usage: stickylb verify <FILE>\n\nArguments:\n  <FILE>  File that holds",
+        ),
+        (
+            &["stickylb", "verify"],
+            "Usage: stickylb verify <FILE>\n\nFor more information, try '--help'.\n",
+        ),
+    ];
+    for (words, part) in cases {
+        let error = read_words(rt.alloc(), words).err().ok_or("an error")?;
+        let text = format!(in rt.alloc(); "{error}")?;
+        assert!(rt; text.as_str().contains(part), "{text}");
+    }
+    Ok(())
+}

@@ -1,0 +1,48 @@
+//! `stickylb`: a load balancer whose promises are proved. `lb_cli_words` reads the words of the command line, and
+//! `lb_cli` does the job that they ask for.
+#![tactic(auto)]
+
+use lb_cli::perform;
+use lb_cli_words::{Error, ErrorKind, exit_status, read_words};
+use std::env;
+use std::process::ExitCode;
+
+fn main(rt: HostRuntime) -> ExitCode {
+    let Ok(words) = env::args(&rt) else {
+        let _ = eprintln!(rt; "the words of the command line can't be read");
+        return ExitCode::from(2);
+    };
+    let Ok(words) = words.collect::<Vec<String>>(rt.alloc()) else {
+        return out_of_memory(&rt);
+    };
+    let texts = words.iter().map(|word| word.as_str());
+    let Ok(texts) = texts.collect::<Vec<&str>>(rt.alloc()) else {
+        return out_of_memory(&rt);
+    };
+    match read_words(rt.alloc(), &texts) {
+        Ok(job) => ExitCode::from(perform(
+            rt.alloc(),
+            &rt,
+            job,
+            &mut rt.stdout(),
+            &mut rt.stderr(),
+        )),
+        Err(error) => complain(&rt, &error),
+    }
+}
+
+/// Prints what the words call for: help on standard output, and all else on standard error.
+fn complain(rt: &(impl Print + Eprint), error: &Error) -> ExitCode {
+    if error.kind() == ErrorKind::OutOfMemory {
+        return out_of_memory(rt);
+    }
+    match error.print(rt) {
+        Ok(()) => ExitCode::from(exit_status(error)),
+        Err(_) => ExitCode::from(exit_status(error).max(1)),
+    }
+}
+
+fn out_of_memory(rt: &impl Eprint) -> ExitCode {
+    let _ = eprintln!(rt; "out of memory");
+    ExitCode::from(1)
+}
