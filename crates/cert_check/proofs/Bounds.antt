@@ -1,16 +1,16 @@
 -- How large a plan's sums can get.
-use Rattle.std.proofs.Common.{◌≡◌, Some, None, Option, ℕ, ◌+◌, ◌*◌, ◌≤◌, Bool, true, false, cond, List, [], ◌∷◌, ap, ◌∙◌, arith}
+use Rattle.std.proofs.Common.{Some, None, Option, ℕ, ◌+◌, ◌*◌, ◌≤◌, Bool, true, false, cond, List, arith}
 use Rattle.std.specs.List.{sum_by, All}
-use Rattle.std.proofs.lemmas.List.Sums.{sum_by-cons, sum_by-le-sum_by}
-use Rattle.std.proofs.lemmas.List.Elements.{All-head, All-tail, All-weaker}
-use Rattle.std.proofs.Math.Nat.{mul-le-mul_left, mul-le-mul_right}
+use Rattle.std.proofs.lemmas.List.Sums.{sum_by-le-sum_by}
+use Rattle.std.proofs.lemmas.List.Elements.{All-weaker}
+use Rattle.std.proofs.Math.Nat.{mul-le-mul_right}
 use Rattle.lb_types_pins.specs.declared.kind.PinKind.{PinKind}
 use Rattle.lb_types_pins.specs.declared.kind.Row.{Row}
-use Rattle.lb_types_pins.specs.Kinds.{same_place}
 use Rattle.pin_set.specs.Costs.{option_cost, least, move_cost}
 use Rattle.pin_set.specs.Rows.{rows_pins, rows_spent, rows_unplaced_cost, rows_cost, rows_least}
 use Rattle.cert_check.specs.Ranges.{AreFew}
-use Rattle.cert_check.proofs.Steps.{least-le_none}
+use Rattle.cert_check_law.proofs.Sums.{least-le_none, weighted-below}
+use Rattle.cert_check_law.proofs.Duality.{move_cost-le}
 
 -- a sum of some of the counts is at most the sum of all
 pub part-le-pins : (p : Row → Bool) (rows : List Row) → sum_by (λ r. cond (p r) r.count 0) rows ≤ rows_pins rows
@@ -18,24 +18,12 @@ part-le-pins p rows =
     sum_by-le-sum_by (λ (r : Row). cond (p r) r.count 0) (λ (r : Row). r.count) rows
     (λ r. elim (p r) as (λ b. cond b r.count 0 ≤ r.count) [ true ↦ omega arith | false ↦ omega arith ])
 
--- a sum of counts times values, none of which is more than m, is at most all the counts times m
-pub weighted-le : (f : Row → ℕ) (m : ℕ) (rows : List Row) → All (λ r. f r ≤ m) rows → sum_by (λ r. r.count * f r) rows ≤ rows_pins rows * m
-weighted-le f m [] each = omega arith
-weighted-le f m (r ∷ rows) each =
-    let here : r.count * f r ≤ r.count * m = mul-le-mul_left r.count (All-head (λ (q : Row). f q ≤ m) r rows each) in
-    let rest = weighted-le f m rows (All-tail (λ (q : Row). f q ≤ m) r rows each) in
-    let whole : rows_pins (r ∷ rows) * m ≡ r.count * m + rows_pins rows * m = ap (λ k. k * m) (sum_by-cons (λ (q : Row). q.count) r rows) ∙ omega arith in
-    omega (arith, sum_by-cons (λ (q : Row). q.count * f q) r rows)
-
--- the same, where there are at most 2^24 pins
+-- a sum of counts times values, none of which is more than m, where there are at most 2^24 pins
 few-weighted-le : (f : Row → ℕ) (m : ℕ) (rows : List Row) → AreFew rows → All (λ r. f r ≤ m) rows → sum_by (λ r. r.count * f r) rows ≤ 16777216 * m
 few-weighted-le f m rows few each =
-    let all = weighted-le f m rows each in
+    let all = weighted-below (λ (r : Row). r.count) f m rows each in
     let most : rows_pins rows * m ≤ 16777216 * m = mul-le-mul_right m few.total in
     omega arith
-
-pub move_cost-le : (kind : PinKind) (to : Option ℕ) → move_cost kind to ≤ kind.cost
-move_cost-le kind to = elim (same_place kind.place to) as (λ b. cond b 0 kind.cost ≤ kind.cost) [ true ↦ omega arith | false ↦ omega arith ]
 
 -- what holds of each row of a cost of at most 1000
 abbrev Cheap : Row → Type 0

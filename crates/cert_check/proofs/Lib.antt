@@ -1,3 +1,4 @@
+pub mod Best
 pub mod Bounds
 pub mod Decided
 pub mod Loads

@@ -1,8 +1,8 @@
 -- The verdict on a plan for a sheet.
 --
--- A plan carries its own proof. It is a solution of a transportation problem, its prices are a solution of the dual one, and
--- where the two have one value both are best (strong duality: Kantorovich 1939, Dantzig 1951). So the verdict reads the
--- plan and its prices alone: no other plan is looked at, and it doesn't matter where the prices come from.
+-- A plan carries its own proof. It is a solution of a transportation problem, its prices are a solution of the dual problem,
+-- and where the two have one value both are best (weak duality of linear programs). So the verdict reads the plan and its
+-- prices alone: no other plan is looked at, and it doesn't matter where the prices come from.
 use Rattle.std.specs.Prelude.{◌≡◌, ℕ, ◌+◌, ◌≤◌, Bool, not, ◌&&◌, ◌==◌, nat_le, List, length, slice_get, unwrap_or, Result, Ok, Err, All, if◌then◌else◌}
 use Rattle.std.specs.List.{list_all, range_with_len}
 use Rattle.std.specs.Option.{option_eq, option_map_or}
@@ -64,16 +64,20 @@ IsShown sheet plan = cost_of plan + worth_of sheet plan ≡ least_of plan
 
 -- ---- the same as tests
 
+-- two servers have one name, and one capacity or are both off
 abbrev pub same_server : Server → Server → Bool
 same_server a b = pointwise nat_eq a.name b.name && option_eq nat_eq a.capacity b.capacity
 
+-- two groups are of one kind and of one size
 abbrev pub same_group : Group → Group → Bool
 same_group a b = same_kind a.kind b.kind && a.count == b.count
 
+-- the servers are the sheet's one by one, and so are the groups
 abbrev pub is_made_for : SheetParts → PlanParts → Bool
 is_made_for sheet plan =
     pointwise same_server (servers_of plan.servers) sheet.servers && pointwise same_group (groups_of plan.rows) sheet.groups
 
+-- each row's pins may go where the row sends them
 abbrev pub is_permitted : PlanParts → Bool
 is_permitted plan = list_all (λ r. may_go r.kind r.new_place) plan.rows
 
@@ -82,6 +86,7 @@ abbrev pub is_within_capacity : SheetParts → PlanParts → Bool
 is_within_capacity sheet plan =
     list_all (λ s. nat_le (rows_load plan.rows s) (room sheet.servers s)) (range_with_len 0 (length sheet.servers))
 
+-- cost and bound are equal
 abbrev pub is_shown : SheetParts → PlanParts → Bool
 is_shown sheet plan = cost_of plan + worth_of sheet plan == least_of plan
 

@@ -1,5 +1,6 @@
-ghost use Rattle.std.specs.Prelude.{◌≡◌, ◌↔◌, IsOk, IfOk, IsErrOf};
+ghost use Rattle.std.specs.Prelude.{◌≡◌, ◌↔◌, IsOk, IfOk, OnOk, IsErrOf};
 ghost use Rattle.pin_set.specs.Rows.{rows_score};
+ghost use Rattle.pin_groups_sheet.specs.Sheets.{AreBestForViews};
 ghost use Rattle.cert_check.specs.Verdict.{verdict, IsMadeFor, IsPermitted, IsWithinCapacity, IsShown};
 
 use crate::CheckFault;
@@ -15,6 +16,10 @@ use pin_set::Score;
 /// Takes no memory. Costs a look at each server for each row, and a few walks over the rows.
 pub fn check(sheet: &Sheet, plan: &Plan) -> Result<Score, CheckFault>
     ensures exact { result ≡ verdict sheet.now plan.now }
+
+    // A score is given only where, for every view that the sheet stands for, each assignment that agrees with the plan
+    // is best and has this score.
+    ensures best { OnOk result (AreBestForViews sheet.now plan.now.rows) }
 
     // The score, and each fault, with what it says of the plan.
     ensures score { IfOk result (λ score. score ≡ rows_score plan.now.rows) }

@@ -1,7 +1,8 @@
 use Rattle.std.proofs.Common.{◌≡◌, arith, sym, refl, ap, ◌∙◌}
 use Rattle.lb_types.specs.Servers.{has}
 use Rattle.cert_check.specs.Verdict.{price_at}
-use Rattle.cert_check.proofs.Steps.{least-none, least_more, price_at-read}
+use Rattle.cert_check_law.proofs.Sums.{least-none, least_more}
+use Rattle.cert_check.proofs.Steps.{price_at-read}
 use Rattle.cert_check.proofs.bound.least.Goals as goal
 use Rattle.cert_check.proofs.bound.least.Goals.{then-has, else-has}
 

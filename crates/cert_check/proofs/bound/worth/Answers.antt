@@ -4,7 +4,8 @@ use Rattle.std.proofs.lemmas.List.Elements.{All-get_or}
 use Rattle.dual_cert_plan.specs.declared.server.PricedServer.{PricedServer}
 use Rattle.dual_cert_plan.specs.Plans.{servers_of}
 use Rattle.cert_check.specs.Verdict.{room, price_at}
-use Rattle.cert_check.proofs.Steps.{sum_to-none, sum_to_more, price_at-read, room-read}
+use Rattle.cert_check_law.proofs.Sums.{sum_to-none, sum_to_more}
+use Rattle.cert_check.proofs.Steps.{price_at-read, room-read}
 use Rattle.cert_check.proofs.bound.worth.Goals as goal
 
 pub loop-server-init : goal.loop-server-init

@@ -1,0 +1,5 @@
+pub mod Changes
+pub mod Checks
+pub mod Farm
+pub mod FaultNumbers
+pub mod Server
