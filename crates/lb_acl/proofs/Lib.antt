@@ -1,0 +1,5 @@
+pub mod Compared
+pub mod Examples
+pub mod KeyLaws
+pub mod LastOnes
+pub mod Values
