@@ -20,12 +20,15 @@ pub record PlanDraft : Type 0 where
   pub has_costs : Bool
   pub plan : PlanParts
 
+-- the draft of these parts
 abbrev pub draft_of : Bool → ℕ → List PricedServer → List Row → PlanDraft
 draft_of has_costs version servers rows = record { has_costs = has_costs; plan = record { version = version; servers = servers; rows = rows } }
 
+-- the draft with a server more
 abbrev pub with_server : PlanDraft → PricedServer → PlanDraft
 with_server draft server = record draft { plan = record (draft.plan) { servers = draft.plan.servers ++ server ∷ [] } }
 
+-- the draft with a row more
 abbrev pub with_row : PlanDraft → Row → PlanDraft
 with_row draft row = record draft { plan = record (draft.plan) { rows = draft.plan.rows ++ row ∷ [] } }
 
@@ -55,6 +58,7 @@ add_row n draft words = do
   row ← next_row draft.plan.rows (sum_by (λ r. r.count) draft.plan.rows) said
   Ok (with_row draft row)
 
+-- line n declares a server or says a row, by its first word
 unfoldable pub add_line : ℕ → PlanDraft → List (List ℕ) → Result PlanDraft TextFault
 add_line n draft [] = Err (BadLine n)
 add_line n draft (word ∷ words) =
@@ -68,6 +72,7 @@ needs_costs rows = list_any (λ r. not (r.kind.cost == 1)) rows
 abbrev pub may_end : PlanDraft → Bool
 may_end draft = not draft.has_costs || needs_costs draft.plan.rows
 
+-- the format of plans
 unfoldable pub plan_format : Format PlanDraft
 plan_format = record {
   word = codes "stickyplan";

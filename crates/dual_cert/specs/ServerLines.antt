@@ -35,6 +35,7 @@ server_words_of _ _ [] = None
 abbrev pub in_range : Usage → Bool
 in_range usage = option_map_or (λ c. nat_lt c (2 ^ 32)) usage.capacity true && nat_lt usage.price (2 ^ 40)
 
+-- the server that the words declare
 abbrev pub priced_server : ServerWords → PricedServer
 priced_server said = record { server = record { name = said.name; capacity = said.usage.capacity }; price = said.usage.price }
 

@@ -1,4 +1,5 @@
--- The one spelling of each plan. Lines end with a line feed, words are separated by one space, and numbers are decimal.
+-- The one spelling of each plan. Lines end with a line feed (byte 10), words are separated by one space (byte 32), names of
+-- a set by a comma (byte 44), and numbers are decimal.
 use Rattle.std.specs.Prelude.{ℕ, Bool, ◌==◌, Option, Some, None, List, [], ◌∷◌, ◌++◌, map, slice_get, codes, if◌then◌else◌}
 use Rattle.std.specs.Fmt.{decimal}
 use Rattle.std.specs.List.{flat_map, join_with_byte}

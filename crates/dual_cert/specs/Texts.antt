@@ -1,5 +1,6 @@
 -- Texts of lines: a heading of two lines, lines that each add to what was read, and the line `end`. A text is its parts
--- between the line ends. The last part, behind the last line end, is only looked at for being empty.
+-- between the line ends (byte 10), and a line its words between the spaces (byte 32). The last part, behind the last
+-- line end, is only looked at for being empty.
 use Rattle.std.specs.Prelude.{ℕ, ◌+◌, ◌^◌, Bool, true, false, ◌==◌, nat_lt, not, Option, Some, None, List, [], ◌∷◌, length, codes, Result, Ok, Err, if◌then◌else◌}
 use Rattle.std.specs.Option.{ok_or}
 use Rattle.std.specs.Str.{bytes_eq}
@@ -43,6 +44,7 @@ pub record Line : Type 0 where
   pub line : List ℕ
   pub rest : List (List ℕ)
 
+-- the first line, where it has an end
 unfoldable pub line_of : List (List ℕ) → Result Line TextFault
 line_of [] = Err Truncated
 line_of (line ∷ rest) = if length rest == 0 then Err Truncated else Ok (record { line = line; rest = rest })
@@ -64,6 +66,7 @@ pub record Heading : Type 0 where
   pub version : ℕ
   pub rest : List (List ℕ)
 
+-- the heading of a text with this first word
 unfoldable pub heading_at : List ℕ → List (List ℕ) → Result Heading TextFault
 heading_at word lines = do
   first ← line_of lines

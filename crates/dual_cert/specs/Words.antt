@@ -3,6 +3,7 @@ use Rattle.std.specs.Prelude.{ℕ, ◌==◌, Option, Some, None, option_and_then
 use Rattle.std.specs.Str.{bytes_eq}
 use Rattle.lb_types_text.specs.Numbers.{numeral_of}
 
+-- the second step, if the first one gave a value
 infixl 10 ◌>>=◌
 abbrev pub ◌>>=◌ : {A B : Type 0} → Option A → (A → Option B) → Option B
 o >>= f = option_and_then f o

@@ -21,7 +21,10 @@ pub(crate) struct Heading<'a> {
 /// The first line, without its end, and the text behind it.
 #[tactic(auto, unfolding(crate::specs::Texts::line_of))]
 fn read_line(text: &[u8]) -> Result<(&[u8], &[u8]), TextFault>
-    ensures { Reads (λ x. record { line = x.0.now; rest = parts 10 x.1.now }) result (line_of (parts 10 text.now)) }
+    ensures { Reads
+        (λ x. record { line = x.0.now; rest = parts 10 x.1.now })
+        result
+        (line_of (parts 10 text.now)) }
 {
     cut(text, b'\n').ok_or(TextFault::Truncated)
 }

@@ -21,12 +21,14 @@ use std::alloc::Global;
 /// server), and `end`. It begins with `stickyplan 2` where some row's cost isn't 1, and then each row has its cost as its
 /// last word. Any other text has a first fault.
 ///
-/// One walk over the text. The memory is that of the servers and rows, some four times the text's size at most.
+/// One walk over the text, with a walk over at most 128 names for each name in it. The memory is that of the rows, some
+/// 50 bytes each, and up to three times as much while their list grows.
 pub fn read_plan(alloc: Global, text: &[u8]) -> Result<Plan, ReadError>
     // What is read is spelled so.
     ensures found { IfOk result (λ plan. text.now ≡ spelling plan) }
     // What is spelled so is read, unless memory runs out.
-    ensures only { (plan : PlanParts) → IsPlan plan → text.now ≡ spelling plan → Gives (λ p. p) result (Ok plan) }
+    ensures only { (plan : PlanParts) → IsPlan plan → text.now ≡ spelling plan
+        → Gives (λ p. p) result (Ok plan) }
     // Which fault it is.
     ensures exact { Gives (λ p. p) result (plan_of_text text.now) }
 {
@@ -35,8 +37,8 @@ pub fn read_plan(alloc: Global, text: &[u8]) -> Result<Plan, ReadError>
 
 /// No text of a plan begins another, so a text that stands in front of other lines ends where it ends.
 pub fn one_text()
-    ensures { (a b : PlanParts) (rest : List ℕ) → IsPlan a → IsPlan b → spelling b ≡ spelling a ++ rest
-        → (a ≡ b) × (rest ≡ []) }
+    ensures { (a b : PlanParts) (rest : List ℕ) → IsPlan a → IsPlan b
+        → spelling b ≡ spelling a ++ rest → (a ≡ b) × (rest ≡ []) }
 {}
 
 #[tactic(auto, unfolding(crate::specs::PlanTexts::plan_of_text))]
