@@ -1,0 +1,37 @@
+ghost use Rattle.std.specs.Prelude.{◌≡◌, ◌≢◌, ◌≤◌, ℕ, List, ◌∷◌, ◌++◌, true, map, length, Ok, Err};
+ghost use Rattle.std.specs.List.{list_all};
+ghost use Rattle.command_socket_words.specs.declared.command.Command.{Command};
+ghost use Rattle.command_socket_words.specs.declared.fault.CommandFault.{CommandFault};
+ghost use Rattle.command_socket_words.specs.declared.fault.CommandFault.TheVariants.{UnknownCommand, MissingWord};
+ghost use Rattle.command_socket_words.specs.Commands.{command_of, commands_of};
+ghost use Rattle.command_socket_words.specs.Lines.{are_words, line_of};
+ghost use Rattle.command_socket_words.specs.Meanings.{IsCommand, Says};
+ghost use Rattle.command_socket_words.specs.Words.{Word};
+
+/// A command is read exactly where its words say it: `Says` is the table of commands.
+pub fn words_say_a_command()
+    ensures found { (words : List Word) (command : Command) → command_of words ≡ Ok command
+        → IsCommand command × Says words command }
+    ensures only { (words : List Word) (command : Command) → IsCommand command
+        → Says words command → command_of words ≡ Ok command }
+{}
+
+/// The fault that is told is the first one from the left.
+pub fn the_first_fault_is_told()
+    // A fault stands, whatever words follow.
+    ensures stays { (words more : List Word) (fault : CommandFault) → fault ≢ MissingWord
+        → command_of words ≡ Err fault → command_of (words ++ more) ≡ Err fault }
+    // A word is missing only where other words make a command of it.
+    ensures missing { (words : List Word) → command_of words ≡ Err MissingWord
+        → (more : List Word) × (command : Command) × (command_of (words ++ more) ≡ Ok command) }
+    // Behind a whole command each word is one too many.
+    ensures ends { (words : List Word) (word : Word) (more : List Word) (command : Command)
+        → command_of words ≡ Ok command → command_of (words ++ word ∷ more) ≡ Err UnknownCommand }
+{}
+
+/// Commands whose words stand in a line, with spaces and semicolons between them, are each read by their words.
+pub fn a_line_says_its_commands()
+    ensures { (commands : List (List Word)) → list_all are_words commands ≡ true
+        → length (line_of commands) ≤ 4096
+        → commands_of (line_of commands) ≡ map command_of commands }
+{}
