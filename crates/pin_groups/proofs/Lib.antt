@@ -1,2 +1,5 @@
 pub mod Order
 pub mod Sheets
+pub mod Leftovers
+pub mod Tally
+pub mod SmallPlans

@@ -41,7 +41,7 @@ fn groups_of(alloc: Global, usable: ServerSet, pins: &[Pin]) -> Result<Vec<Group
     Ok(groups)
 }
 
-fn kind_of(usable: ServerSet, pin: &Pin) -> PinKind
+pub(crate) fn kind_of(usable: ServerSet, pin: &Pin) -> PinKind
     ensures { result ≡ kind_of usable pin.now }
 {
     PinKind {

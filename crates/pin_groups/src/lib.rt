@@ -1,14 +1,19 @@
 //! The sheet of a view, and assignments that follow a plan.
 //!
-//! Promised: `group` gives the sheet that stands for a view. Start there; what "stands for" means is in
-//! `pin_groups_sheet`.
+//! Promised: `group` gives the sheet that stands for a view, `sheet_of` the same one from counts alone, and `spread` gives
+//! an assignment that agrees with a plan for that sheet. Start at `group`; what "stands for" means is in
+//! `pin_groups_sheet`, and what "agrees" means in `pin_set`.
 #![tactic(auto)]
 
+mod counted;
 mod grouping;
 mod listed;
 mod rising;
+mod spreading;
 
+pub use counted::{PinCount, one_sheet_for_a_view, sheet_of};
 pub use grouping::group;
+pub use spreading::spread;
 
 #[cfg(test)]
 mod tests;

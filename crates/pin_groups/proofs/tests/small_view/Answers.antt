@@ -2,7 +2,7 @@ use Rattle.std.proofs.Common.{◌≡◌, ◌≢◌, true, false, Some, refl, sym
 use Rattle.lb_types.specs.Servers.{has}
 use Rattle.pin_set.proofs.SmallViews.{small_view, other_set, none_below, some_below, IsSmall}
 use Rattle.pin_set.specs.Views.{IsBelow}
-use Rattle.pin_groups.proofs.tests.a_sheet_has_a_group_for_each_place_and_cost_in_rising_order.Goals as goal
+use Rattle.pin_groups.proofs.tests.small_view.Goals as goal
 
 pub new-view-requires : goal.new-view-requires
 new-view-requires g c =
