@@ -1,0 +1,57 @@
+-- Why bytes never become a success, whatever follows them.
+use Rattle.std.proofs.Common.{◌≡◌, ◌⊎◌, ℕ, ◌<◌, ◌≤◌, List, [], ◌++◌, length, length-append, take, drop, arith, Bool, false, append-nil, ap, sym, ◌∙◌, subst}
+use Rattle.std.proofs.lemmas.Grind.{common_steps}
+use Rattle.std.proofs.Math.Seq.{take-append_seam}
+use Rattle.std.proofs.lemmas.List.{take-append-le, take-append-drop}
+use Rattle.httparse.specs.Grammar.{ResponseHead, ReadsResponse, HasNoResponse, print_response, status_code}
+use Rattle.httparse.specs.Spans.{IsResponseAt}
+use Rattle.httparse.specs.declared.spans.HeaderSpan.{HeaderSpan}
+use Rattle.httparse.specs.declared.spans.ResponseSpans.{ResponseSpans}
+use Rattle.httparse.proofs.GrammarLemmas.{response_prefix_free}
+use Rattle.std.specs.Io.KnownBytes.{prepend_known}
+use Rattle.http_relay_wire.specs.Wires.{Reading}
+use Rattle.http_relay_wire.specs.declared.fault.FaultCounts.{FaultCounts}
+use Rattle.check_workers_probe.specs.Probes.{IsSuccess, BeginsWithSuccess, NeverBeginsWithSuccess, HasReason, Probed}
+
+-- what stands at the front of a text stands at the front of its first bytes, if they are as many
+pub front_within : (text more front rest : List ℕ) → text ++ more ≡ front ++ rest → length front ≤ length text → text ≡ front ++ drop (length front) text
+front_within text more front rest same fits =
+    let n = length front in
+    let first : take n text ≡ front = sym (take-append-le n text more fits) ∙ ap (take n) same ∙ take-append_seam front rest in
+    sym (take-append-drop n text) ∙ ap (λ xs. xs ++ drop n text) first
+
+-- a head with another status stands at the front, and no other head can
+pub other_status : (text : List ℕ) (headers : List HeaderSpan) (spans : ResponseSpans) (head : ResponseHead)
+    → IsResponseAt text headers spans head → ((200 ≤ spans.code) → (spans.code ≤ 399) → ⊥) → NeverBeginsWithSuccess text
+other_status text headers spans head at other more (k, rest, success) =
+    let same = response_prefix_free text more head k (drop spans.len text) rest at.reads success.reads in
+    let code = at.code ∙ ap status_code same.0 in
+    other (subst (λ n. 200 ≤ n) (sym code) success.least) (subst (λ n. n ≤ 399) (sym code) success.greatest)
+
+-- no head of so many bytes stands at the front, and there are as many bytes
+pub too_long : (text : List ℕ) → HasNoResponse text → 16384 ≤ length text → NeverBeginsWithSuccess text
+too_long text none full more (head, rest, success) =
+    let enough : length (print_response head) ≤ length text = omega (arith, success.size, full) in
+    none head (drop (length (print_response head)) text)
+    (success.reads.0, front_within text more (print_response head) rest success.reads.1 enough)
+
+-- what never begins so doesn't begin so as it is
+pub not_yet : (text : List ℕ) → NeverBeginsWithSuccess text → ¬ BeginsWithSuccess text
+not_yet text never success = never [] (subst BeginsWithSuccess (sym (append-nil text)) success)
+
+-- a probe that says no
+pub says_no : (text : List ℕ) (old new : Reading) (before after : FaultCounts) → old.unread ≡ prepend_known text new.unread
+    → ¬ BeginsWithSuccess text → HasReason text new before after → Probed old new before after false
+says_no text old new before after read not reason =
+    record { text = text; read = read; yes = λ wrong. absurd cc; only = λ success. absurd (not success); no = λ _. reason }
+
+-- a head has bytes
+printed : (head : ResponseHead) → 0 < length (print_response head)
+unfolding print_response
+printed head = grind (arith, common_steps)
+
+-- nothing is no success
+pub nothing_begins_so : ¬ BeginsWithSuccess []
+nothing_begins_so (head, rest, success) =
+    let size = ap length success.reads.1 ∙ length-append (print_response head) rest in
+    absurd (omega (arith, size, printed head))

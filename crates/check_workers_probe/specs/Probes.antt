@@ -1,0 +1,49 @@
+-- When a check's response is a success: HAProxy Configuration Manual 2.8, `option httpchk`, statuses 2xx and 3xx; the head is
+-- RFC 9112's as httparse reads it. Our own: the limits on the head.
+use Rattle.std.specs.Prelude.{◌≡◌, ◌⊎◌, ℕ, ◌≤◌, ◌<◌, Bool, true, List, ◌++◌, length, IsTrue, IsFalse}
+use Rattle.std.specs.Io.KnownBytes.{prepend_known}
+use Rattle.httparse.specs.Grammar.{ResponseHead, ReadsResponse, print_response, status_code}
+use Rattle.http_relay_wire.specs.Wires.{Reading}
+use Rattle.http_relay_wire.specs.Faults.{after_read_fault, after_write_fault}
+use Rattle.http_relay_wire.specs.declared.fault.WireFault.{WireFault}
+use Rattle.http_relay_wire.specs.declared.fault.FaultCounts.{FaultCounts}
+use Rattle.check_workers_probe.specs.declared.judge.Verdict.{Verdict}
+use Rattle.check_workers_probe.specs.declared.judge.Verdict.TheVariants.{Success, Failure, Unfinished}
+
+-- the text is this head and then rest, and the head is that of a success within the limits
+pub record IsSuccess (text : List ℕ) (head : ResponseHead) (rest : List ℕ) : Type 0 where
+  pub reads : ReadsResponse text head rest
+  pub size : length (print_response head) ≤ 16384
+  pub fields : length head.fields ≤ 100
+  pub least : 200 ≤ status_code head
+  pub greatest : status_code head ≤ 399
+
+-- the text begins with the head of a success
+abbrev pub BeginsWithSuccess : List ℕ → Type 0
+BeginsWithSuccess text = (head : ResponseHead) × (rest : List ℕ) × IsSuccess text head rest
+
+-- the text doesn't, whatever follows
+abbrev pub NeverBeginsWithSuccess : List ℕ → Type 0
+NeverBeginsWithSuccess text = (more : List ℕ) → ¬ BeginsWithSuccess (text ++ more)
+
+-- what a verdict says of a text that may have so many bytes
+abbrev pub Judges : ℕ → List ℕ → Verdict → Type 0
+Judges most text Success = BeginsWithSuccess text
+Judges most text Failure = NeverBeginsWithSuccess text
+Judges most text Unfinished = (¬ BeginsWithSuccess text) × (length text < most)
+
+-- a call failed, and was counted
+abbrev pub HasFailed : FaultCounts → FaultCounts → Type 0
+HasFailed before after = (fault : WireFault) × ((after ≡ after_read_fault fault before) ⊎ (after ≡ after_write_fault fault before))
+
+-- why a probe that read this text says no: the wire failed, the peer has ended, or no more bytes help
+abbrev pub HasReason : List ℕ → Reading → FaultCounts → FaultCounts → Type 0
+HasReason text reading before after = HasFailed before after ⊎ (reading.ended ≡ true) ⊎ NeverBeginsWithSuccess text
+
+-- what a probe that sends a request read, and how it came to its answer
+pub record Probed (old new : Reading) (before after : FaultCounts) (answer : Bool) : Type 0 where
+  pub text : List ℕ
+  pub read : old.unread ≡ prepend_known text new.unread
+  pub yes : IsTrue answer → BeginsWithSuccess text
+  pub only : BeginsWithSuccess text → IsTrue answer
+  pub no : IsFalse answer → HasReason text new before after
