@@ -224,7 +224,7 @@ plan_builds : Builds plan_format Keeps draft_lines
 unfolding plan_format
 plan_builds = record { starts = starts; adds = line_added }
 
-ends_alike : (costs needs : Bool) → (not costs || needs) ≡ true → (costs ≡ false → needs ≡ false) → costs ≡ needs
+pub ends_alike : (costs needs : Bool) → (not costs || needs) ≡ true → (costs ≡ false → needs ≡ false) → costs ≡ needs
 ends_alike true true may plain = refl
 ends_alike true false may plain = cc
 ends_alike false needs may plain = sym (plain refl)
@@ -333,7 +333,7 @@ leads_both : (lines more : List (List ℕ)) (a b c : PlanDraft) → Leads plan_f
 leads_both [] more a b c first second = let F : PlanDraft → Type 0 = λ d. Leads plan_format d more c in subst F (sym first) second
 leads_both (line ∷ lines) more a b c first second = (first.0, first.1, first.2, first.3, leads_both lines more first.2 b c first.4 second)
 
-distinct_priced : (servers : List PricedServer) → AllPairs (λ a b. a.name ≢ b.name) (servers_of servers) → Distinct servers
+pub distinct_priced : (servers : List PricedServer) → AllPairs (λ a b. a.name ≢ b.name) (servers_of servers) → Distinct servers
 distinct_priced servers distinct i j d before within =
     let own = length-map servers (λ p. p.server) in
     let apart = distinct i j d.server before (omega (arith, within, own)) in
@@ -341,7 +341,7 @@ distinct_priced servers distinct i j d before within =
     rw (get_or-map (λ p. p.server) servers j d d.server within) at left
 
 -- a fact of each server, of each priced server
-all_priced : (P : Server → Type 0) (servers : List PricedServer) → All P (servers_of servers) → All (λ p. P p.server) servers
+pub all_priced : (P : Server → Type 0) (servers : List PricedServer) → All P (servers_of servers) → All (λ p. P p.server) servers
 all_priced P servers all k d within =
     let own = length-map servers (λ p. p.server) in
     let one = all k d.server (omega (arith, within, own)) in
@@ -394,7 +394,7 @@ unfolding spelling plan_lines
 plan_text plan =
     ap (λ ls. text_of_lines (ls ++ codes "end" ∷ [])) (append_assoc (heading_lines (codes "stickyplan") (needs_costs plan.rows) plan.version) (map (λ s. server_line s) plan.servers) (map (λ r. row_line (needs_costs plan.rows) plan.servers r) plan.rows))
 
-ends_again : (b : Bool) → (not b || b) ≡ true
+pub ends_again : (b : Bool) → (not b || b) ≡ true
 ends_again true = refl
 ends_again false = refl
 

@@ -34,7 +34,7 @@ use Rattle.dual_cert.proofs.Steps.{and_true, bind_some, unless_none, if_none, ei
 use Rattle.dual_cert.proofs.WholeTexts.{gap_is_no_end}
 
 -- a number of at least 1, spelled
-positive_found : (word : List ℕ) (n : ℕ) → positive_of word ≡ Some n → n < 2 ^ 64 - 1 → (word ≡ decimal n) × (1 ≤ n)
+pub positive_found : (word : List ℕ) (n : ℕ) → positive_of word ≡ Some n → n < 2 ^ 64 - 1 → (word ≡ decimal n) × (1 ≤ n)
 unfolding positive_of
 positive_found word n is small =
     let read = bind_some (numeral_of word) _ n is in
@@ -43,14 +43,14 @@ positive_found word n is small =
     let at_least : 1 ≤ n = (let h = some.0 in grind (arith, nat_tests)) in
     (spelled_as word n (read.1 ∙ ap (λ k. Some k) same) small, at_least)
 
-positive_again : (n : ℕ) → 1 ≤ n → n < 2 ^ 64 → positive_of (decimal n) ≡ Some n
+pub positive_again : (n : ℕ) → 1 ≤ n → n < 2 ^ 64 → positive_of (decimal n) ≡ Some n
 unfolding positive_of
 positive_again n some small =
     let z : eqb n 0 ≡ false = grind (arith, nat_tests) in
     rw (numeral_again n small, z) refl
 
 -- a place, spelled
-place_found : (servers : List PricedServer) (word : List ℕ) (place : Option ℕ) → place_of servers word ≡ Some place → (word ≡ place_word servers place) × ForSome place (λ s. s < length servers)
+pub place_found : (servers : List PricedServer) (word : List ℕ) (place : Option ℕ) → place_of servers word ≡ Some place → (word ≡ place_word servers place) × ForSome place (λ s. s < length servers)
 unfolding place_of place_word
 place_found servers word place is =
     let F : Option ℕ → Type 0 = λ p. (word ≡ place_word servers p) × ForSome p (λ s. s < length servers) in
@@ -68,7 +68,7 @@ place_found servers word place is =
     none_some : (s : ℕ) → None ≡ Some s → ⊥
     none_some s e = cc
 
-place_again : (servers : List PricedServer) (place : Option ℕ) → Distinct servers → All (λ s. is_name s.server.name ≡ true) servers → ForSome place (λ s. s < length servers) → place_of servers (place_word servers place) ≡ Some place
+pub place_again : (servers : List PricedServer) (place : Option ℕ) → Distinct servers → All (λ s. is_name s.server.name ≡ true) servers → ForSome place (λ s. s < length servers) → place_of servers (place_word servers place) ≡ Some place
 unfolding place_of place_word
 place_again servers None distinct names listed = refl
 place_again servers (Some s) distinct names listed =
@@ -77,7 +77,7 @@ place_again servers (Some s) distinct names listed =
     rw (name_not_dash (name_at servers s) name, named_again servers s distinct within) refl
 
 -- the usable server of a name
-usable_found : (servers : List PricedServer) (word : List ℕ) (s : ℕ) → usable_named servers word ≡ Some s → (s < length servers) × (name_at servers s ≡ word) × (is_open servers s ≡ true)
+pub usable_found : (servers : List PricedServer) (word : List ℕ) (s : ℕ) → usable_named servers word ≡ Some s → (s < length servers) × (name_at servers s ≡ word) × (is_open servers s ≡ true)
 unfolding usable_named
 usable_found servers word s is =
     let named = bind_some (server_named servers word) _ s is in
@@ -162,7 +162,7 @@ names_spelled servers word found few read rising =
     (rw nonzero spelled, λ s held. all_among (is_open servers) s found at.1 (sym (has-set_with found s) ∙ held))
 
 -- a set, spelled
-set_found : (servers : List PricedServer) (word : List ℕ) (said : SetWord) → length servers ≤ 128 → set_of servers word ≡ Some said → said.is_rising ≡ true → (word ≡ set_word servers said.servers) × ((s : ℕ) → has said.servers s ≡ true → is_open servers s ≡ true)
+pub set_found : (servers : List PricedServer) (word : List ℕ) (said : SetWord) → length servers ≤ 128 → set_of servers word ≡ Some said → said.is_rising ≡ true → (word ≡ set_word servers said.servers) × ((s : ℕ) → has said.servers s ≡ true → is_open servers s ≡ true)
 unfolding set_of members_of set_word
 set_found servers word said few is rising =
     let F : SetWord → Type 0 = λ v. (word ≡ set_word servers v.servers) × ((s : ℕ) → has v.servers s ≡ true → is_open servers s ≡ true) in
@@ -227,7 +227,7 @@ no_set : (servers : List PricedServer) → set_of servers (set_word servers 0) �
 unfolding set_of set_word
 no_set servers = refl
 
-set_again : (servers : List PricedServer) (set : ℕ) → length servers ≤ 128 → Distinct servers → All (λ t. is_name t.server.name ≡ true) servers → ((s : ℕ) → has set s ≡ true → is_open servers s ≡ true) → set_of servers (set_word servers set) ≡ Some (record { is_rising = true; servers = set })
+pub set_again : (servers : List PricedServer) (set : ℕ) → length servers ≤ 128 → Distinct servers → All (λ t. is_name t.server.name ≡ true) servers → ((s : ℕ) → has set s ≡ true → is_open servers s ≡ true) → set_of servers (set_word servers set) ≡ Some (record { is_rising = true; servers = set })
 set_again servers set few distinct names usable =
     elim (cases_Bool (eqb set 0)) [
       | inl zero_set ↦
@@ -237,7 +237,7 @@ set_again servers set few distinct names usable =
     ]
 
 -- a cost, spelled
-cost_found : (has_costs : Bool) (words : List (List ℕ)) (c : ℕ) → cost_of has_costs words ≡ Some c → c < 2 ^ 64 - 1 → (words ≡ cond has_costs (decimal c ∷ []) []) × (1 ≤ c) × (has_costs ≡ false → c ≡ 1)
+pub cost_found : (has_costs : Bool) (words : List (List ℕ)) (c : ℕ) → cost_of has_costs words ≡ Some c → c < 2 ^ 64 - 1 → (words ≡ cond has_costs (decimal c ∷ []) []) × (1 ≤ c) × (has_costs ≡ false → c ≡ 1)
 unfolding cost_of
 cost_found false [] c is small = let one : 1 ≡ c = cc in (refl, omega arith, λ plain. sym one)
 cost_found false (word ∷ words) c is small = cc
@@ -250,7 +250,7 @@ cost_found true (word ∷ []) c is small =
     true_false e = cc
 cost_found true (word ∷ next ∷ words) c is small = cc
 
-cost_again : (has_costs : Bool) (c : ℕ) → 1 ≤ c → c < 2 ^ 64 → (has_costs ≡ false → c ≡ 1) → cost_of has_costs (cond has_costs (decimal c ∷ []) []) ≡ Some c
+pub cost_again : (has_costs : Bool) (c : ℕ) → 1 ≤ c → c < 2 ^ 64 → (has_costs ≡ false → c ≡ 1) → cost_of has_costs (cond has_costs (decimal c ∷ []) []) ≡ Some c
 unfolding cost_of
 cost_again true c some small plain = positive_again c some small
 cost_again false c some small plain = rw (plain refl) refl
@@ -311,7 +311,7 @@ row_again has_costs servers row few distinct names kept count cost =
     rw (one, two, three, four, five) refl
 
 -- the words of a row hold no gap and no line end
-place_free : (mark : ℕ) (servers : List PricedServer) (place : Option ℕ) → mark < 44 → is_name_byte mark ≡ false → All (λ t. is_name t.server.name ≡ true) servers → ForSome place (λ s. s < length servers) → HasNo mark (place_word servers place)
+pub place_free : (mark : ℕ) (servers : List PricedServer) (place : Option ℕ) → mark < 44 → is_name_byte mark ≡ false → All (λ t. is_name t.server.name ≡ true) servers → ForSome place (λ s. s < length servers) → HasNo mark (place_word servers place)
 unfolding place_word
 place_free mark servers None below other names listed = above_mark mark (codes "-") below refl
 place_free mark servers (Some s) below other names listed = name_free mark (name_at servers s) other (name_is servers s names (listed s refl))
@@ -324,7 +324,7 @@ set_cond : (b : Bool) (mark : ℕ) (one two : List ℕ) → HasNo mark one → H
 set_cond true mark one two free_one free_two = free_one
 set_cond false mark one two free_one free_two = free_two
 
-set_free : (mark : ℕ) (servers : List PricedServer) (set : ℕ) → mark < 44 → is_name_byte mark ≡ false → All (λ t. is_name t.server.name ≡ true) servers → ((s : ℕ) → has set s ≡ true → is_open servers s ≡ true) → HasNo mark (set_word servers set)
+pub set_free : (mark : ℕ) (servers : List PricedServer) (set : ℕ) → mark < 44 → is_name_byte mark ≡ false → All (λ t. is_name t.server.name ≡ true) servers → ((s : ℕ) → has set s ≡ true → is_open servers s ≡ true) → HasNo mark (set_word servers set)
 unfolding set_word
 set_free mark servers set below other names usable =
     let within = all-members (λ s. ltb s (length servers)) set (λ s held. (let w = open_within servers s (usable s held) in grind (arith, nat_tests))) in
@@ -332,7 +332,7 @@ set_free mark servers set below other names usable =
     set_cond (eqb set 0) mark (codes "-") (join_with_byte 44 (map (λ s. name_at servers s) (members set))) (above_mark mark (codes "-") below refl)
     (join_free mark (map (λ s. name_at servers s) (members set)) differs (names_free mark servers (members set) other names within))
 
-cost_free : (mark : ℕ) (has_costs : Bool) (c : ℕ) → mark < 44 → c < 2 ^ 64 → All (HasNo mark) (cond has_costs (decimal c ∷ []) [])
+pub cost_free : (mark : ℕ) (has_costs : Bool) (c : ℕ) → mark < 44 → c < 2 ^ 64 → All (HasNo mark) (cond has_costs (decimal c ∷ []) [])
 cost_free mark true c below small = All-cons (HasNo mark) (decimal c) [] (digits_free mark c below small) (All-nil (HasNo mark))
 cost_free mark false c below small = All-nil (HasNo mark)
 

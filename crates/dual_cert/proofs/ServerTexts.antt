@@ -1,11 +1,12 @@
 -- Lines of servers, read and spelled.
-use Rattle.std.proofs.Common.{◌≡◌, ◌≢◌, ℕ, ◌^◌, ◌<◌, ◌≤◌, Bool, true, false, not, ◌&&◌, eqb, ltb, inl, inr, Option, Some, None, List, [], ◌∷◌, length, get_or, codes, Ok, refl, sym, ap, subst, ◌∙◌, arith}
+use Rattle.std.proofs.Common.{◌≡◌, ◌≢◌, ℕ, ◌+◌, ◌-◌, ◌^◌, ◌<◌, ◌≤◌, Bool, true, false, not, ◌&&◌, eqb, ltb, inl, inr, Option, Some, None, List, [], ◌∷◌, ◌++◌, length, get_or, take, drop, codes, Ok, refl, sym, ap, subst, ◌∙◌, arith, length-append}
 use Rattle.std.specs.Fmt.{decimal}
 use Rattle.std.specs.List.{All, AllPairs, list_all, position_or_len}
 use Rattle.std.specs.Option.{ok_or, option_map_or, ForSome, is_none}
 use Rattle.std.specs.Str.{bytes_eq}
-use Rattle.std.proofs.lemmas.Bool.{cases_eq}
+use Rattle.std.proofs.lemmas.Bool.{cases_eq, cases_lt}
 use Rattle.std.proofs.lemmas.Bool.Decides.{nat_tests}
+use Rattle.std.proofs.lemmas.List.{get_or_append_left, get_or-append-add, take-append-drop, length-take-le}
 use Rattle.std.proofs.lemmas.List.Elements.{All-nil, All-cons}
 use Rattle.std.proofs.lemmas.List.Quantifiers.{position-Some}
 use Rattle.std.proofs.lemmas.List.Sums.{position_or_len_is, fails_before_first}
@@ -111,7 +112,7 @@ pub record IsServerLine (servers : List PricedServer) (words : List (List ℕ)) 
   pub off : s.server.capacity ≡ None → s.price ≡ 0
   pub spelled : words ≡ s.server.name ∷ usage_words s.server.capacity s.price
 
-in_range_found : (u : Usage) → in_range u ≡ true → ForSome u.capacity (λ c. c < 2 ^ 32) × (u.price < 2 ^ 40)
+pub in_range_found : (u : Usage) → in_range u ≡ true → ForSome u.capacity (λ c. c < 2 ^ 32) × (u.price < 2 ^ 40)
 in_range_found u is =
     let parts = and_true (option_map_or (λ c. ltb c (2 ^ 32)) u.capacity true) (ltb u.price (2 ^ 40)) is in
     ((λ c e. let small : ltb c (2 ^ 32) ≡ true = rw e at parts.0 in grind (arith, nat_tests)), grind (arith, nat_tests, parts.1))
@@ -196,7 +197,7 @@ usage_again (Some c) price small_c small_p off =
     let m = numeral_again price (omega arith) in
     rw (n, m) refl
 
-in_range_again : (capacity : Option ℕ) (price : ℕ) → ForSome capacity (λ c. c < 2 ^ 32) → price < 2 ^ 40 → in_range (record { capacity = capacity; price = price }) ≡ true
+pub in_range_again : (capacity : Option ℕ) (price : ℕ) → ForSome capacity (λ c. c < 2 ^ 32) → price < 2 ^ 40 → in_range (record { capacity = capacity; price = price }) ≡ true
 in_range_again None price small_c small_p = grind (arith, nat_tests)
 in_range_again (Some c) price small_c small_p =
     let b : c < 2 ^ 32 = small_c c refl in
@@ -253,3 +254,58 @@ server_line_free s name capacity price =
 pub server_line_goes_on : (s : PricedServer) → bytes_eq (server_line s) (codes "end") ≡ false
 unfolding server_line
 server_line_goes_on s = refl
+
+name_left : (front back : List PricedServer) (i : ℕ) → i < length front → name_at (front ++ back) i ≡ name_at front i
+name_left front back i within =
+    name_at_is (front ++ back) i (omega (arith, within, length-append front back))
+    ∙ ap (λ s. s.server.name) (get_or_append_left front back nobody i within)
+    ∙ sym (name_at_is front i within)
+
+name_right : (front back : List PricedServer) (i : ℕ) → i < length back → name_at (front ++ back) (length front + i) ≡ name_at back i
+name_right front back i within =
+    name_at_is (front ++ back) (length front + i) (omega (arith, within, length-append front back))
+    ∙ ap (λ s. s.server.name) (get_or-append-add front back i nobody)
+    ∙ sym (name_at_is back i within)
+
+-- a name that the later servers have is found there, since no earlier one has it
+named_later : (front back : List PricedServer) (word : List ℕ) (i : ℕ) → Distinct (front ++ back) → server_named back word ≡ Some i → server_named (front ++ back) word ≡ Some (length front + i)
+named_later front back word i distinct is =
+    let at = named_found back word i is in
+    ap (server_named (front ++ back)) (sym at.1 ∙ sym (name_right front back i at.0))
+    ∙ named_again (front ++ back) (length front + i) distinct (omega (arith, at.0, length-append front back))
+
+-- a name that no later server has is found among the earlier ones, if at all
+named_earlier : (front back : List PricedServer) (word : List ℕ) → Distinct (front ++ back) → server_named back word ≡ None → server_named (front ++ back) word ≡ server_named front word
+named_earlier front back word distinct none = by_value (server_named front word) refl
+  where
+    apart : (k : ℕ) → server_named front word ≡ None → k < length (front ++ back) → (get_or (front ++ back) k nobody).server.name ≢ word
+    apart k none_front within =
+        elim (cases_lt k (length front)) [
+          | inl earlier ↦ rw (get_or_append_left front back nobody k earlier) (named_none front word none_front k nobody earlier)
+          | inr later ↦
+              let place : k ≡ length front + (k - length front) = omega arith in
+              let in' : k - length front < length back = omega (arith, within, length-append front back) in
+              rw (place, get_or-append-add front back (k - length front) nobody) (named_none back word none (k - length front) nobody in')
+        ]
+
+    by_value : (o : Option ℕ) → server_named front word ≡ o → server_named (front ++ back) word ≡ o
+    by_value None is = named_none_again (front ++ back) word (λ k within. apart k is within)
+    by_value (Some i) is =
+        let at = named_found front word i is in
+        ap (server_named (front ++ back)) (sym at.1 ∙ sym (name_left front back i at.0))
+        ∙ named_again (front ++ back) i distinct (omega (arith, at.0, length-append front back))
+
+-- a name that the servers from a number on have is found there
+pub named_from_on : (servers : List PricedServer) (from : ℕ) (word : List ℕ) (i : ℕ) → Distinct servers → from ≤ length servers → server_named (drop from servers) word ≡ Some i → server_named servers word ≡ Some (from + i)
+named_from_on servers from word i distinct within is =
+    let whole = take-append-drop from servers in
+    let D : List PricedServer → Type 0 = λ ss. Distinct ss in
+    let found = named_later (take from servers) (drop from servers) word i (subst D (sym whole) distinct) is in
+    ap (λ ss. server_named ss word) (sym whole) ∙ found ∙ ap (λ n. Some (n + i)) (length-take-le from servers within)
+
+-- a name that none of them has is found before, if at all
+pub named_before : (servers : List PricedServer) (from : ℕ) (word : List ℕ) → Distinct servers → server_named (drop from servers) word ≡ None → server_named servers word ≡ server_named (take from servers) word
+named_before servers from word distinct none =
+    let whole = take-append-drop from servers in
+    let D : List PricedServer → Type 0 = λ ss. Distinct ss in
+    ap (λ ss. server_named ss word) (sym whole) ∙ named_earlier (take from servers) (drop from servers) word (subst D (sym whole) distinct) none

@@ -3,10 +3,12 @@ use Rattle.std.specs.Prelude.{◌≡◌, ℕ, ◌≤◌, Bool, List, length, sum
 use Rattle.lb_types_pins.specs.declared.kind.Row.{Row}
 use Rattle.dual_cert_plan.specs.declared.server.PricedServer.{PricedServer}
 use Rattle.dual_cert.specs.PlanTexts.{needs_costs}
+use Rattle.dual_cert.specs.ServerLines.{AreDistinct}
 
--- few servers, and the count and the need of the rows as they are
+-- few servers with names of their own, and the count and the need of the rows as they are
 pub record KeepsTotals (servers : List PricedServer) (rows : List Row) (count : ℕ) (costs : Bool) : Type 0 where
   pub few : length servers ≤ 128
+  pub distinct : AreDistinct servers
   pub sum : count ≡ sum_by (λ r. r.count) rows
   pub small : count ≤ 16777216
   pub need : costs ≡ needs_costs rows

@@ -1,6 +1,6 @@
 -- Lines of servers: `server NAME off`, and for a usable server `server NAME cap C` in a sheet and
 -- `server NAME cap C price P` in a plan.
-use Rattle.std.specs.Prelude.{ℕ, ◌^◌, Bool, true, false, ◌&&◌, nat_lt, is_none, Option, Some, None, position, List, [], ◌∷◌, length, codes, Result, Ok, Err, if◌then◌else◌}
+use Rattle.std.specs.Prelude.{◌≢◌, ℕ, ◌^◌, Bool, true, false, ◌&&◌, nat_lt, is_none, Option, Some, None, position, List, [], ◌∷◌, length, AllPairs, codes, Result, Ok, Err, if◌then◌else◌}
 use Rattle.std.specs.Option.{ok_or, option_map_or}
 use Rattle.std.specs.Str.{bytes_eq}
 use Rattle.lb_types.specs.Names.{is_name}
@@ -15,6 +15,10 @@ use Rattle.dual_cert.specs.Words.{◌>>=◌ as ◌>>?◌, keyed}
 -- the number of the server with this name
 abbrev pub server_named : List PricedServer → List ℕ → Option ℕ
 server_named servers word = position (λ s. bytes_eq s.server.name word) servers
+
+-- the servers have names of their own
+abbrev pub AreDistinct : List PricedServer → Type 0
+AreDistinct servers = AllPairs (λ a b. a.server.name ≢ b.server.name) servers
 
 -- the words behind a server's name, with numbers of any size
 unfoldable pub usage_of : Bool → List (List ℕ) → Option Usage

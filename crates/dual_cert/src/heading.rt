@@ -9,13 +9,13 @@ use lb_types_text::{Parts, cut};
 
 /// The first two lines of a text.
 #[derive(Debug, Drop)]
-pub(crate) struct Heading<'a> {
+pub struct Heading<'a> {
     /// Whether the text is of version 2.
-    pub(crate) is_second: bool,
+    pub is_second: bool,
     /// The version of the table.
-    pub(crate) version: u64,
+    pub version: u64,
     /// The text behind the two lines.
-    pub(crate) rest: &'a [u8],
+    pub rest: &'a [u8],
 }
 
 /// The first line, without its end, and the text behind it.
@@ -63,7 +63,7 @@ fn read_version(line: &[u8]) -> Option<u64>
 
 /// The heading of a text whose first word is `word`.
 #[tactic(auto, unfolding(crate::specs::Texts::heading_at))]
-pub(crate) fn read_heading<'a>(word: &[u8], text: &'a [u8]) -> Result<Heading<'a>, TextFault>
+pub fn read_heading<'a>(word: &[u8], text: &'a [u8]) -> Result<Heading<'a>, TextFault>
     ensures { Reads
         (λ h. record { is_second = h.is_second; version = h.version; rest = parts 10 h.rest.now })
         result

@@ -1,9 +1,10 @@
 ghost use Rattle.std.specs.Prelude.{◌≡◌, ◌<◌, ◌≤◌, ◌&&◌, nat_le, true, length};
 ghost use Rattle.lb_types.specs.Servers.{with_server};
 ghost use Rattle.lb_types_text.specs.Parts.{parts};
+ghost use Rattle.dual_cert.specs.ServerLines.{AreDistinct};
 ghost use Rattle.dual_cert.specs.RowLines.{is_dash, place_of, is_open, usable_named, members_of, set_of, cost_of};
 
-use crate::server_line::server_named;
+use crate::server_line::{server_named, server_named_from};
 use crate::words::{is, read_positive};
 use dual_cert_plan::PricedServer;
 use lb_types::{Place, ServerId, ServerSet};
@@ -11,10 +12,10 @@ use lb_types_text::Parts;
 
 /// The servers that a word names.
 #[derive(Clone, Copy, Debug)]
-pub(crate) struct SetWord {
+pub struct SetWord {
     /// Whether their names stood in the order of the servers, each once.
-    pub(crate) is_rising: bool,
-    pub(crate) servers: ServerSet,
+    pub is_rising: bool,
+    pub servers: ServerSet,
 }
 
 impl SetWord {
@@ -48,7 +49,7 @@ fn is_dash(word: &[u8]) -> bool
 
 /// The place that the word names.
 #[tactic(auto, unfolding(crate::specs::RowLines::place_of))]
-pub(crate) fn read_place(servers: &[PricedServer], word: &[u8]) -> Option<Place>
+pub fn read_place(servers: &[PricedServer], word: &[u8]) -> Option<Place>
     requires { length servers.now ≤ 128 }
     ensures { result ≡ place_of servers.now word.now }
 {
@@ -68,13 +69,15 @@ fn is_open(servers: &[PricedServer], server: usize) -> bool
     servers[server].server.capacity.is_some()
 }
 
-/// The usable server that the word names.
+/// The usable server that the word names, looked for from the server `from` on first.
 #[tactic(auto, unfolding(crate::specs::RowLines::usable_named))]
-fn read_usable(servers: &[PricedServer], word: &[u8]) -> Option<ServerId>
-    requires { length servers.now ≤ 128 }
+fn read_usable(servers: &[PricedServer], from: usize, word: &[u8]) -> Option<ServerId>
+    requires few { length servers.now ≤ 128 }
+    requires distinct { AreDistinct servers.now }
+    requires within { from ≤ length servers.now }
     ensures { result ≡ usable_named servers.now word.now }
 {
-    let server = server_named(servers, word)?;
+    let server = server_named_from(servers, from, word)?;
     if !is_open(servers, server) {
         return None;
     }
@@ -83,8 +86,9 @@ fn read_usable(servers: &[PricedServer], word: &[u8]) -> Option<ServerId>
 
 /// The set that the word names.
 #[tactic(auto, unfolding(crate::specs::RowLines::set_of))]
-pub(crate) fn read_set(servers: &[PricedServer], word: &[u8]) -> Option<SetWord>
-    requires { length servers.now ≤ 128 }
+pub fn read_set(servers: &[PricedServer], word: &[u8]) -> Option<SetWord>
+    requires few { length servers.now ≤ 128 }
+    requires distinct { AreDistinct servers.now }
     ensures { result ≡ set_of servers.now word.now }
 {
     if is_dash(word) {
@@ -94,13 +98,14 @@ pub(crate) fn read_set(servers: &[PricedServer], word: &[u8]) -> Option<SetWord>
 }
 
 fn read_members(servers: &[PricedServer], mut names: Parts) -> Option<SetWord>
-    requires { length servers.now ≤ 128 }
+    requires few { length servers.now ≤ 128 }
+    requires distinct { AreDistinct servers.now }
     ensures { result ≡ members_of servers.now names.entry }
 {
     let mut found = SetWord::empty();
     let mut from = 0;
     while let Some(name) = names.next_part() {
-        let server = read_usable(servers, name)?;
+        let server = read_usable(servers, from, name)?;
         found = found.with(from, server);
         from = server.index() + 1;
     }
@@ -109,7 +114,7 @@ fn read_members(servers: &[PricedServer], mut names: Parts) -> Option<SetWord>
 
 /// The cost at the end of a line.
 #[tactic(auto, unfolding(crate::specs::RowLines::cost_of))]
-pub(crate) fn read_cost(has_costs: bool, words: &mut Parts) -> Option<u64>
+pub fn read_cost(has_costs: bool, words: &mut Parts) -> Option<u64>
     ensures { result ≡ cost_of has_costs words.old }
 {
     if !has_costs {

@@ -21,7 +21,8 @@ use std::alloc::Global;
 /// server), and `end`. It begins with `stickyplan 2` where some row's cost isn't 1, and then each row has its cost as its
 /// last word. Any other text has a first fault.
 ///
-/// One walk over the text, with a walk over at most 128 names for each name in it. The memory is that of the rows, some
+/// One walk over the text. Each name of a set is looked for from the one before it on, so a canonical set costs one walk
+/// over the servers, at most 128, and each place another. The memory is that of the rows, some
 /// 50 bytes each, and up to three times as much while their list grows.
 pub fn read_plan(alloc: Global, text: &[u8]) -> Result<Plan, ReadError>
     // What is read is spelled so.

@@ -1,4 +1,5 @@
 ghost use Rattle.std.specs.Prelude.{◌≡◌, ◌≤◌, length};
+ghost use Rattle.dual_cert.specs.ServerLines.{AreDistinct};
 ghost use Rattle.dual_cert.specs.RowLines.{row_words_of};
 
 use crate::kind_words::{SetWord, read_cost, read_place, read_set};
@@ -24,7 +25,8 @@ pub(crate) fn read_row_words(
     servers: &[PricedServer],
     words: &mut Parts,
 ) -> Option<RowWords>
-    requires { length servers.now ≤ 128 }
+    requires few { length servers.now ≤ 128 }
+    requires distinct { AreDistinct servers.now }
     ensures { result ≡ row_words_of has_costs servers.now words.old }
 {
     let count = words.next_part()?;

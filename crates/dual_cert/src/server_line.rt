@@ -1,6 +1,6 @@
-ghost use Rattle.std.specs.Prelude.{◌≡◌, ◌<◌, ◌∷◌, true, length, OnOk};
+ghost use Rattle.std.specs.Prelude.{◌≡◌, ◌<◌, ◌≤◌, ◌∷◌, true, length, OnOk};
 ghost use Rattle.std.specs.Option.{option_map_or};
-ghost use Rattle.dual_cert.specs.ServerLines.{server_named, usage_of, server_words_of, in_range, server_at};
+ghost use Rattle.dual_cert.specs.ServerLines.{AreDistinct, server_named, usage_of, server_words_of, in_range, server_at};
 
 use crate::TextFault;
 use crate::words::{is, read_keyed};
@@ -10,17 +10,17 @@ use lb_types_text::Parts;
 
 /// What a server line says of its server, in numbers of any size.
 #[derive(Clone, Copy, Debug)]
-pub(crate) struct Usage {
+pub struct Usage {
     /// None where the server is off.
-    pub(crate) capacity: Option<u64>,
-    pub(crate) price: u64,
+    pub capacity: Option<u64>,
+    pub price: u64,
 }
 
 /// A server line's words.
 #[derive(Clone, Copy, Debug)]
-pub(crate) struct ServerWords {
-    pub(crate) name: Name,
-    pub(crate) usage: Usage,
+pub struct ServerWords {
+    pub name: Name,
+    pub usage: Usage,
 }
 
 /// The number of the server with this name.
@@ -30,6 +30,20 @@ pub(crate) fn server_named(servers: &[PricedServer], word: &[u8]) -> Option<usiz
     servers
         .iter()
         .position(|server| is(server.server.name.as_bytes(), word))
+}
+
+/// The number of the server with this name. It is looked for from the server `from` on first, since names mostly stand in
+/// the order of the servers.
+pub(crate) fn server_named_from(servers: &[PricedServer], from: usize, word: &[u8]) -> Option<usize>
+    requires within { from ≤ length servers.now }
+    requires distinct { AreDistinct servers.now }
+    ensures { result ≡ server_named servers.now word.now }
+{
+    let (earlier, later) = servers.split_at(from);
+    match server_named(later, word) {
+        Some(place) => Some(from + place),
+        None => server_named(earlier, word),
+    }
 }
 
 #[tactic(auto, unfolding(crate::specs::ServerLines::usage_of))]
@@ -91,7 +105,7 @@ fn read_server_words(
 
 /// The server that line `number` declares behind these servers.
 #[tactic(auto, unfolding(crate::specs::ServerLines::server_at))]
-pub(crate) fn read_server(
+pub fn read_server(
     number: u64,
     is_priced: bool,
     servers: &[PricedServer],

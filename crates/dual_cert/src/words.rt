@@ -5,7 +5,7 @@ ghost use Rattle.dual_cert.specs.Words.{keyed, positive_of};
 use lb_types_text::numeral;
 
 /// Whether the word is this one.
-pub(crate) fn is(word: &[u8], wanted: &[u8]) -> bool
+pub fn is(word: &[u8], wanted: &[u8]) -> bool
     ensures { result ≡ bytes_eq word.now wanted.now }
 {
     *word == *wanted
@@ -13,7 +13,7 @@ pub(crate) fn is(word: &[u8], wanted: &[u8]) -> bool
 
 /// The number behind the word `key`.
 #[tactic(auto, unfolding(crate::specs::Words::keyed))]
-pub(crate) fn read_keyed(key: &[u8], word: &[u8], number: &[u8]) -> Option<u64>
+pub fn read_keyed(key: &[u8], word: &[u8], number: &[u8]) -> Option<u64>
     ensures { result ≡ keyed key.now word.now number.now }
 {
     if !is(word, key) {
@@ -24,7 +24,7 @@ pub(crate) fn read_keyed(key: &[u8], word: &[u8], number: &[u8]) -> Option<u64>
 
 /// A number of at least 1.
 #[tactic(auto, unfolding(crate::specs::Words::positive_of))]
-pub(crate) fn read_positive(word: &[u8]) -> Option<u64>
+pub fn read_positive(word: &[u8]) -> Option<u64>
     ensures { result ≡ positive_of word.now }
 {
     let number = numeral(word)?;

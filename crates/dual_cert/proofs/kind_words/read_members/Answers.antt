@@ -1,4 +1,5 @@
 use Rattle.std.proofs.Common.{arith, sym, ◌∙◌}
+use Rattle.dual_cert.proofs.RowTexts.{usable_found}
 use Rattle.dual_cert.proofs.SetWords.{with_members_start, with_members_end, with_members_more, with_members_none}
 use Rattle.dual_cert.proofs.kind_words.read_members.Goals as goal
 
@@ -15,7 +16,7 @@ pub loop-name-preserved : goal.loop-name-preserved
 loop-name-preserved c =
     let more = with_members_more c.args.servers.now c.loop-name.from _ c.loop-name.found c.with-found.result c.in-Some.name.now c.next_part.new.self (sym c.in_ok-server.ensures) c.with-found.ensures.rising c.with-found.ensures.servers in
     let now = rw c.in-Some.ensures.first at c.loop-name.invariant.0 in
-    (rw c.index-from.ensures.exact (sym more ∙ now), omega arith)
+    (rw c.index-from.ensures.exact (sym more ∙ now), rw c.index-from.ensures.exact (let at = (usable_found _ _ _ (sym c.in_ok-server.ensures)).0 in omega (arith, at)))
 
 pub returns : goal.returns
 returns c =

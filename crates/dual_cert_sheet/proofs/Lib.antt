@@ -1,0 +1,4 @@
+pub mod GroupTexts
+pub mod RoomTexts
+pub mod SheetLaws
+pub mod Totals

@@ -1,0 +1,4 @@
+pub mod DraftFields
+pub mod GroupLines
+pub mod SheetSpellings
+pub mod SheetTexts

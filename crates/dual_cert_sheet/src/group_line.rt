@@ -1,0 +1,40 @@
+ghost use Rattle.std.specs.Prelude.{◌≡◌, ◌≤◌, length};
+ghost use Rattle.dual_cert.specs.ServerLines.{AreDistinct};
+ghost use Rattle.dual_cert_sheet.specs.GroupLines.{group_words_of};
+
+use dual_cert::kind_words::{SetWord, read_cost, read_place, read_set};
+use dual_cert::words::read_positive;
+use dual_cert_plan::PricedServer;
+use lb_types::Place;
+use lb_types_text::Parts;
+
+/// A group line's words, with numbers of any size.
+#[derive(Clone, Copy, Debug)]
+pub(crate) struct GroupWords {
+    pub(crate) count: u64,
+    pub(crate) place: Place,
+    pub(crate) permitted: SetWord,
+    pub(crate) cost: u64,
+}
+
+/// The words behind `group`.
+#[tactic(auto, unfolding(crate::specs::GroupLines::group_words_of))]
+pub(crate) fn read_group_words(
+    has_costs: bool,
+    servers: &[PricedServer],
+    words: &mut Parts,
+) -> Option<GroupWords>
+    requires few { length servers.now ≤ 128 }
+    requires distinct { AreDistinct servers.now }
+    ensures { result ≡ group_words_of has_costs servers.now words.old }
+{
+    let count = words.next_part()?;
+    let place = words.next_part()?;
+    let permitted = words.next_part()?;
+    Some(GroupWords {
+        count: read_positive(count)?,
+        place: read_place(servers, place)?,
+        permitted: read_set(servers, permitted)?,
+        cost: read_cost(has_costs, words)?,
+    })
+}

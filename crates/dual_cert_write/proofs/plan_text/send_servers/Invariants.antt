@@ -1,0 +1,8 @@
+use Rattle.std.proofs.Common.{map, take}
+use Rattle.dual_cert.specs.Spellings.{text_of_lines, server_line}
+use Rattle.dual_cert_write.specs.Sending.{Sends}
+use Rattle.dual_cert_write.proofs.plan_text.send_servers.Given as goal
+
+abbrev pub invariant-loop-server : goal.invariant-loop-server
+invariant-loop-server g l =
+    Sends l.fn.out l.fn.sent l.out l.sent (text_of_lines (map (λ server. server_line server) (take l.server-index l.servers)))

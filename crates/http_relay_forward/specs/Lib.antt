@@ -1,0 +1,4 @@
+pub mod Answers
+pub mod Forwarded
+pub mod Framing
+pub mod Options

@@ -1,0 +1,22 @@
+//! Reads the head of a request from a wire.
+//!
+//! Promised: `read_head` gives a head only where the bytes that it read begin with one, within the limits, that the rules of
+//! `http_relay_forward` don't refuse: its exact parts, and the bytes behind it, none lost. Each fault is told with its cause: 90, 91
+//! and 95 where no more bytes could make a head that is good, 92 where the client ended before, 93 where the wire failed in
+//! that call. Start at `read_head`, whose words are in `specs/Heads.antt`.
+#![tactic(auto)]
+
+mod assembling;
+mod fault;
+mod filling;
+mod parts;
+mod reading;
+mod scanning;
+
+pub use fault::HeadFault;
+pub use parts::ReadHead;
+pub use reading::read_head;
+pub use scanning::HEAD_ROOM;
+
+#[cfg(test)]
+mod tests;

@@ -1,0 +1,3 @@
+pub mod DeclaredView
+pub mod Kinds
+pub mod Limits

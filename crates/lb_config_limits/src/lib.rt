@@ -1,0 +1,17 @@
+//! What a line of a configuration may not do because of the lines before it: declare a name a second time, go past a count, or
+//! have a second `stick on` in its section.
+//!
+//! Promised: `Declarations::take` is the function on the lines' words that `specs/Limits` defines. These faults are told at a
+//! line's first or second word, so they go before what `lb_config_lines` finds behind it. Start at `Declarations`.
+#![tactic(auto)]
+
+mod declarations;
+mod fault;
+mod kind;
+mod name_set;
+
+pub use declarations::Declarations;
+pub use fault::{LimitError, LimitFault};
+
+#[cfg(test)]
+mod tests;

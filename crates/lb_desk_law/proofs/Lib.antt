@@ -1,0 +1,9 @@
+pub mod Accepted
+pub mod Apart
+pub mod Chosen
+pub mod Installs
+pub mod Lawful
+pub mod Parts
+pub mod SameViews
+pub mod Versions
+pub mod Worlds

@@ -1,0 +1,5 @@
+pub mod Examples
+pub mod Headline
+pub mod LawfulViews
+pub mod Parts
+pub mod Worlds

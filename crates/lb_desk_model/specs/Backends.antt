@@ -1,0 +1,24 @@
+-- A backend as the configuration has it: HAProxy Configuration Manual 2.8, `balance`, `option allbackups`, `stick-table`
+-- and section 5.2 (`server`).
+use Rattle.std.specs.Prelude.{◌≡◌, ◌≢◌, ◌≤◌, Bool, true, Option, List, length, All, AllPairs}
+use Rattle.lb_types.specs.Names.{is_name}
+use Rattle.lb_desk_model.specs.declared.backend.BackendServer.{BackendServer}
+use Rattle.lb_desk_model.specs.declared.backend.TableSettings.{TableSettings}
+use Rattle.lb_desk_model.specs.declared.balance.Balance.{Balance}
+
+pub record BackendParts : Type 0 where
+  pub balance : Balance
+  -- all backups are usable together, where only backups are left
+  pub all_backups : Bool
+  pub table : Option TableSettings
+  pub servers : List BackendServer
+
+abbrev pub backend_of_parts : Balance → Bool → Option TableSettings → List BackendServer → BackendParts
+backend_of_parts balance all_backups table servers =
+    record { balance = balance; all_backups = all_backups; table = table; servers = servers }
+
+-- at most 128 servers, with distinct lawful names
+pub record IsBackend (backend : BackendParts) : Type 0 where
+  pub few : length backend.servers ≤ 128
+  pub named : All (λ s. is_name s.name ≡ true) backend.servers
+  pub distinct : AllPairs (λ a b. a.name ≢ b.name) backend.servers

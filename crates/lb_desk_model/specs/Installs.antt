@@ -1,0 +1,43 @@
+-- What planners see, and what a plan does. All of it is our own; a plan is a solution of the transportation problem, and
+-- what its check asks of it stands in `cert_check`.
+use Rattle.std.specs.Prelude.{◌≡◌, ℕ, Option, List, map, Result, Ok}
+use Rattle.std.specs.List.{zip}
+use Rattle.pin_set.specs.declared.totals.Score.{Score}
+use Rattle.pin_set.specs.Rows.{Agrees, score_of}
+use Rattle.pin_set.specs.Views.{kinds_of}
+use Rattle.dual_cert_plan.specs.Plans.{PlanParts}
+use Rattle.dual_cert_plan.specs.Sheets.{SheetParts, IsSheet}
+use Rattle.pin_groups_sheet.specs.Sheets.{StandsFor}
+use Rattle.cert_check.specs.declared.fault.CheckFault.{CheckFault}
+use Rattle.cert_check.specs.Verdict.{verdict}
+use Rattle.lb_desk_model.specs.declared.table_pin.TablePin.{TablePin}
+use Rattle.lb_desk_model.specs.States.{State, view_of}
+
+-- the sheet stands for the state's view, and has its version
+pub record IsSheetOf (state : State) (sheet : SheetParts) : Type 0 where
+  pub lawful : IsSheet sheet
+  pub version : sheet.version ≡ state.version
+  pub stands : StandsFor sheet (view_of state)
+
+-- the plan is checked against the sheet of the state's view, with this verdict
+pub record Judges (state : State) (plan : PlanParts) (answer : Result Score CheckFault) : Type 0 where
+  pub sheet : SheetParts
+  pub of : IsSheetOf state sheet
+  pub verdict : verdict sheet plan ≡ answer
+
+-- the pin at another place, or at none
+abbrev pub moved_to : TablePin → Option ℕ → TablePin
+moved_to p place = record p { pin = record p.pin { place = place } }
+
+-- the state where the i-th pin is at the i-th place
+abbrev pub with_places : State → List (Option ℕ) → State
+with_places state places = record state { pins = map (λ m. moved_to m.0 m.1) (zip state.pins places) }
+
+-- Each pin gets the place that the plan gives it. Which of the pins of one kind goes where is free
+pub record Installs (old : State) (plan : PlanParts) (score : Score) (new : State) : Type 0 where
+  pub accepted : Score
+  pub judges : Judges old plan (Ok accepted)
+  pub places : List (Option ℕ)
+  pub agrees : Agrees plan.rows (kinds_of (view_of old)) places
+  pub score_is : score ≡ score_of (kinds_of (view_of old)) places
+  pub new_is : new ≡ with_places old places

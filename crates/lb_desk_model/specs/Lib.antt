@@ -1,0 +1,9 @@
+pub mod Backends
+pub mod Histories
+pub mod Installs
+pub mod Picks
+pub mod RefusalNumbers
+pub mod Serves
+pub mod Servers
+pub mod States
+pub mod Steps

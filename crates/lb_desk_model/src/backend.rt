@@ -1,0 +1,98 @@
+ghost use Rattle.std.specs.Prelude.{◌≤◌};
+
+use crate::Balance;
+use lb_types::Name;
+use server_state::ServerSettings;
+use std::marker::Model;
+
+/// A server of a backend, as the configuration has it.
+#[derive(Clone, Copy, Debug, PartialEq, Eq)]
+pub struct BackendServer {
+    pub name: Name,
+    pub settings: ServerSettings,
+}
+
+/// A backend's table of pins, as the configuration has it.
+#[derive(Clone, Copy, Debug, PartialEq, Eq)]
+pub struct TableSettings {
+    /// How many pins it holds, 1 to 16777216.
+    pub size: u32,
+    /// After how many milliseconds without a use a pin may go, if ever.
+    pub expire: Option<u32>,
+    /// Whether a full table keeps its pins, and lets no new one in.
+    pub no_purge: bool,
+    pub ghost size_from: { 1 ≤ size },
+    pub ghost size_to: { size ≤ 16777216 },
+}
+
+/// What the configuration says of a backend and no event changes, and the servers that it begins with.
+#[derive(Debug, Drop)]
+pub struct Backend {
+    balance: Balance,
+    all_backups: bool,
+    table: Option<TableSettings>,
+    servers: Vec<BackendServer>,
+}
+
+impl Model for Backend {
+    ghost use Rattle.lb_desk_model.specs.Backends.{BackendParts, IsBackend, backend_of_parts};
+
+    ghost Value = { BackendParts };
+
+    ghost view = { λ b. backend_of_parts b.balance b.all_backups b.table b.servers.items };
+
+    ghost invariant = { λ b. IsBackend (backend_of_parts b.balance b.all_backups b.table b.servers.items) };
+}
+
+impl Backend {
+    ghost use Rattle.std.specs.Prelude.{◌≡◌};
+    ghost use Rattle.lb_desk_model.specs.Backends.{IsBackend, backend_of_parts};
+
+    /// The backend of these parts, which takes no memory. It has at most 128 servers, in the configuration's order, with
+    /// distinct names. `all_backups` says that all backups are usable together, where only backups are left.
+    pub fn new(
+        balance: Balance,
+        all_backups: bool,
+        table: Option<TableSettings>,
+        servers: Vec<BackendServer>,
+    ) -> Self
+        requires { IsBackend (backend_of_parts balance all_backups table servers.items) }
+        ensures { result ≡ backend_of_parts balance all_backups table servers.items }
+    {
+        Backend {
+            balance,
+            all_backups,
+            table,
+            servers,
+        }
+    }
+
+    /// How it chooses among servers.
+    pub fn balance(&self) -> Balance
+        ensures { result ≡ self.now.balance }
+    {
+        self.balance
+    }
+
+    /// Whether all backups are usable together, where only backups are left.
+    pub fn all_backups(&self) -> bool
+        ensures { result ≡ self.now.all_backups }
+    {
+        self.all_backups
+    }
+
+    /// The table of pins, if there is one.
+    pub fn table(&self) -> Option<TableSettings>
+        ensures { result ≡ self.now.table }
+    {
+        self.table
+    }
+
+    /// The servers, in the configuration's order.
+    pub fn servers(&self) -> &[BackendServer]
+        ensures exact { result.now ≡ self.now.servers }
+        ensures lawful { IsBackend self.now }
+    {
+        &self.servers
+    }
+}

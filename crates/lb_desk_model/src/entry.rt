@@ -1,0 +1,8 @@
+use crate::{Event, Reply};
+
+/// One step of a backend, as its journal keeps it.
+#[derive(Debug, Drop)]
+pub struct Entry {
+    pub event: Event,
+    pub reply: Reply,
+}

@@ -1,0 +1,43 @@
+ghost use Rattle.std.specs.Prelude.{◌≤◌};
+
+use crate::RuleList;
+use dual_cert_plan::Plan;
+use lb_types::{Moment, ServerId};
+use pin_set::PinKey;
+use server_state::Change;
+
+/// What a request asks of its backend.
+#[derive(Debug, Drop)]
+pub struct Request {
+    /// What the backend's `stick on` pattern found, if it found something.
+    pub key: Option<PinKey>,
+    /// The servers of the matching `use-server` rules.
+    pub rules: RuleList,
+    /// What it costs to move the pin, 1 to 1000. It is read where a pin is made.
+    pub cost: u16,
+    /// When the request came.
+    pub moment: Moment,
+    pub ghost cost_from: { 1 ≤ cost },
+    pub ghost cost_to: { cost ≤ 1000 },
+}
+
+/// What a backend is asked for. Each is one step of its machine.
+#[derive(Debug, Drop)]
+pub enum Event {
+    /// A server for a request.
+    Serve(Request),
+    /// A connection to the server.
+    Open(ServerId),
+    /// The end of a connection to the server.
+    Close(ServerId),
+    /// That pins go which weren't used for long.
+    Expire(Moment),
+    /// The result of one check of the server: whether it succeeded.
+    Check(ServerId, bool),
+    /// An operator's change.
+    Command(Change),
+    /// The sheet that a planner needs.
+    Snapshot,
+    /// The moves of a plan.
+    Install(Plan),
+}

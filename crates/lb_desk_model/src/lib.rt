@@ -1,0 +1,27 @@
+//! The machine that one backend is: its events, its replies, and what each event does.
+//!
+//! Promised here is nothing that runs: the definitions in `specs/` say which reply goes with which event and what state
+//! follows. `lb_desk_law` proves what they are worth, `lb_desk_plain` is a machine that meets them. Start at
+//! `specs/Steps.antt`.
+#![tactic(auto)]
+
+mod backend;
+mod balance;
+mod entry;
+mod event;
+mod reply;
+mod rule_list;
+mod stand;
+mod table_pin;
+
+pub use backend::{Backend, BackendServer, TableSettings};
+pub use balance::Balance;
+pub use entry::Entry;
+pub use event::{Event, Request};
+pub use reply::{Refusal, Reply, ServedAs};
+pub use rule_list::RuleList;
+pub use stand::Stand;
+pub use table_pin::TablePin;
+
+#[cfg(test)]
+mod tests;

@@ -1,0 +1,10 @@
+use lb_types::Moment;
+use pin_set::Pin;
+
+/// A pin as the table keeps it.
+#[derive(Clone, Debug, Drop, PartialEq, Eq)]
+pub struct TablePin {
+    pub pin: Pin,
+    /// When a request was last served through it.
+    pub last_use: Moment,
+}
