@@ -1,8 +1,6 @@
 -- Why bytes never become a success, whatever follows them.
 use Rattle.std.proofs.Common.{◌≡◌, ◌⊎◌, ℕ, ◌<◌, ◌≤◌, List, [], ◌++◌, length, length-append, take, drop, arith, Bool, false, append-nil, ap, sym, ◌∙◌, subst}
 use Rattle.std.proofs.lemmas.Grind.{common_steps}
-use Rattle.std.proofs.Math.Seq.{take-append_seam}
-use Rattle.std.proofs.lemmas.List.{take-append-le, take-append-drop}
 use Rattle.httparse.specs.Grammar.{ResponseHead, ReadsResponse, HasNoResponse, print_response, status_code}
 use Rattle.httparse.specs.Spans.{IsResponseAt}
 use Rattle.httparse.specs.declared.spans.HeaderSpan.{HeaderSpan}
@@ -10,15 +8,9 @@ use Rattle.httparse.specs.declared.spans.ResponseSpans.{ResponseSpans}
 use Rattle.httparse.proofs.GrammarLemmas.{response_prefix_free}
 use Rattle.std.specs.Io.KnownBytes.{prepend_known}
 use Rattle.http_relay_wire.specs.Wires.{Reading}
+use Rattle.http_relay_wire.proofs.Rooms.{front_within}
 use Rattle.http_relay_wire.specs.declared.fault.FaultCounts.{FaultCounts}
 use Rattle.check_workers_probe.specs.Probes.{IsSuccess, BeginsWithSuccess, NeverBeginsWithSuccess, HasReason, Probed}
-
--- what stands at the front of a text stands at the front of its first bytes, if they are as many
-pub front_within : (text more front rest : List ℕ) → text ++ more ≡ front ++ rest → length front ≤ length text → text ≡ front ++ drop (length front) text
-front_within text more front rest same fits =
-    let n = length front in
-    let first : take n text ≡ front = sym (take-append-le n text more fits) ∙ ap (take n) same ∙ take-append_seam front rest in
-    sym (take-append-drop n text) ∙ ap (λ xs. xs ++ drop n text) first
 
 -- a head with another status stands at the front, and no other head can
 pub other_status : (text : List ℕ) (headers : List HeaderSpan) (spans : ResponseSpans) (head : ResponseHead)

@@ -1,3 +1,5 @@
+ghost use Rattle.std.specs.Prelude.{◌≤◌, IfOk};
+
 use super::*;
 use std::io;
 use std::io::{ErrorKind, Read, Write};
