@@ -1,5 +1,5 @@
 -- Views that differ at most in the order of their pins.
-use Rattle.std.proofs.Common.{◌≡◌, ℕ, List, map, refl, sym, ap, ◌∙◌, cond}
+use Rattle.std.proofs.Common.{◌≡◌, map, refl, sym, ◌∙◌, cond}
 use Rattle.std.specs.Prelude.{count_by}
 use Rattle.std.proofs.lemmas.List.Sorted.{IsPermutation-refl, IsPermutation-sym, IsPermutation-trans, IsPermutation-map, sum_by-IsPermutation}
 use Rattle.lb_types_pins.specs.Kinds.{same_kind}
