@@ -1,0 +1,5 @@
+pub mod Addresses
+pub mod Faults
+pub mod Numbers
+pub mod Rest
+pub mod Reading

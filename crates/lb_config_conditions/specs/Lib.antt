@@ -1,0 +1,9 @@
+pub mod AclDraftView
+pub mod AclLines
+pub mod Calls
+pub mod CondDraftView
+pub mod CondLines
+pub mod CostRuleView
+pub mod Criteria
+pub mod RuleLines
+pub mod UnresolvedCondView

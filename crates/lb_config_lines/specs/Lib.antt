@@ -1,0 +1,4 @@
+pub mod Keywords
+pub mod Lines
+pub mod Sections
+pub mod SettingLines
