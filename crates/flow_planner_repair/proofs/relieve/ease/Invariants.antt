@@ -1,0 +1,17 @@
+use Rattle.std.proofs.Common.{◌+◌, ◌*◌, ◌<◌, ◌≤◌, ℕ}
+use Rattle.flow_planner_net.specs.Networks.{options, size, capacity}
+use Rattle.flow_planner_net.specs.States.{used_of, at, IsState}
+use Rattle.flow_planner_repair.specs.Repairs.{IsLaid, excess, most_looks}
+use Rattle.flow_planner_repair.proofs.relieve.ease.Given as goal
+
+abbrev pub invariant-loop-loads : goal.invariant-loop-loads
+invariant-loop-loads l = record {
+  laid : IsLaid l.network l.counts l.prices l.loads l.arcs l.labels;
+  state : IsState l.network (used_of (size l.network) l.counts) (at l.prices) (at l.loads);
+  pushes : l.pushes + excess l.network (at l.loads) ≤ excess l.network (at l.fn.loads);
+  fits : (o : ℕ) → o < options l.network → at l.fn.loads o ≤ capacity l.network o → at l.loads o ≤ capacity l.network o;
+  looks : l.arcs.looks ≤ l.fn.arcs.looks + l.pushes * most_looks l.network;
+}
+
+abbrev pub decreases-loop-loads : goal.decreases-loop-loads
+decreases-loop-loads l = excess l.network (at l.loads)

@@ -1,0 +1,4 @@
+pub mod LeastArcs
+pub mod Searches
+pub mod Pushes
+pub mod Repairs
