@@ -3,9 +3,8 @@
 //! the times go to standard error.
 #![tactic(auto)]
 
-use dual_cert::read_plan;
-use dual_cert_write::write_plan;
-use lb_types_counted::Counted;
+use dual_cert::{read_plan, write_plan};
+use lb_types::Counted;
 use std::alloc::Global;
 use std::env;
 use std::io::{BufWriter, Write};

@@ -1,5 +1,6 @@
-ghost use Rattle.std.specs.Prelude.{◌≡◌, ◌+◌, ◌-◌, ◌<◌, ◌≤◌, ◌^◌, true, length, IfOk, OnOk, OnErr};
+ghost use Rattle.std.specs.Prelude.{◌≡◌, ◌+◌, ◌-◌, ◌<◌, true, length, IfOk, OnOk, OnErr};
 ghost use Rattle.std.specs.Result.{result_err};
+ghost use Rattle.capacity_book.specs.Book.{most_connections};
 
 use crate::{CloseFault, OpenFault};
 use lb_types::ServerId;
@@ -85,10 +86,9 @@ impl Book {
 
     /// Counts one connection more at a server that serves and isn't full; else it is refused, and counts nothing.
     ///
-    /// The book has to have every server of the farm, and fewer than 2^64 - 1 connections may be open at the server.
+    /// A server that isn't in the book doesn't serve. One is full where as many connections are open as its `maxconn`
+    /// says, and where that is 0, which sets no limit, as many as 64 bits count.
     pub fn open(&mut self, server: ServerId, farm: &Farm) -> Result<(), OpenFault>
-        requires covers { length farm.now.servers ≤ length self.old.connections }
-        requires countable { connections_at self.old server + 1 < 2 ^ 64 }
         ensures fault { result_err result ≡ open_fault self.old farm.now server }
         ensures ok { OnOk result
             (self.new ≡ with_connections self.old server (connections_at self.old server + 1)) }
@@ -97,9 +97,10 @@ impl Book {
         if !farm.serving(server) {
             return Err(OpenFault::NotServing);
         }
-        let limit = farm.max_connections(server);
-        let connections = &mut self.connections[server.index()];
-        if limit != 0 && u64::from(limit) <= *connections {
+        let Some(connections) = self.connections.get_mut(server.index()) else {
+            return Err(OpenFault::NotServing);
+        };
+        if most_connections(farm.max_connections(server)) <= *connections {
             return Err(OpenFault::Full);
         }
         *connections += 1;
@@ -128,5 +129,15 @@ impl Book {
         ensures { self.new ≡ with_all_pins self.old loads.now }
     {
         self.pins.copy_from_slice(loads);
+    }
+}
+
+/// How many connections may be open at a server with this `maxconn`.
+fn most_connections(maxconn: u32) -> u64
+    ensures { result ≡ most_connections maxconn }
+{
+    match maxconn {
+        0 => u64::MAX,
+        limit => u64::from(limit),
     }
 }

@@ -6,10 +6,10 @@ use thiserror::Error;
 /// Why a connection isn't opened. The first of these that holds is the one that is told.
 #[derive(Clone, Copy, Debug, PartialEq, Eq, Hash, Error)]
 pub enum OpenFault {
-    /// The server doesn't exist, is in maintenance, or is down.
+    /// The server doesn't exist, in the farm or in the book, is in maintenance, or is down.
     #[error("the server does not serve")]
     NotServing,
-    /// As many connections are open as `maxconn` allows.
+    /// As many connections are open as `maxconn` allows, or as can be counted.
     #[error("the server has as many connections as it may have")]
     Full,
 }

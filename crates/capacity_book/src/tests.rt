@@ -51,6 +51,18 @@ fn a_drained_server_takes_connections_and_one_without_limit_takes_all(
     Ok(())
 }
 
+// The farm has two servers, the book one place.
+#[test]
+fn a_server_that_is_not_in_the_book_does_not_serve(rt: HostRuntime) -> Result<(), Fail> {
+    let b = ServerId::new(1);
+    let farm = Farm::new(rt.alloc(), &[settings(), settings()], false)?;
+    let mut book = Book::new(rt.alloc(), 1)?;
+    assert!(rt; farm.serving(b) && !book.room(b, &farm));
+    assert_eq!(rt; book.open(b, &farm), Err(OpenFault::NotServing));
+    assert_eq!(rt; book.close(b), Err(CloseFault::NotOpen));
+    Ok(())
+}
+
 /// Counts one pin fewer, if there is one.
 fn take_away(book: &mut Book, server: ServerId) {
     if book.pins(server) > 0 {

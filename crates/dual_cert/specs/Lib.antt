@@ -1,8 +1,7 @@
-pub mod DraftFields
-pub mod Faults
-pub mod PlanTexts
-pub mod RowLines
-pub mod ServerLines
-pub mod Spellings
-pub mod Texts
-pub mod Words
+pub use Rattle.dual_cert_text.specs.Faults
+pub use Rattle.dual_cert_text.specs.PlanTexts
+pub use Rattle.dual_cert_text.specs.Spellings
+pub use Rattle.dual_cert_text.specs.declared.fault.ReadError
+pub use Rattle.dual_cert_text.specs.declared.fault.TextFault
+pub use Rattle.dual_cert_sheet.specs.SheetSpellings
+pub use Rattle.dual_cert_sheet.specs.SheetTexts

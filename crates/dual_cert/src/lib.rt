@@ -1,25 +1,18 @@
-//! Texts of plans: each plan has one text, and each text that is no plan's has a first fault.
+//! Texts of plans and of sheets, both ways.
 //!
-//! Promised: `read_plan` gives a plan exactly where the text is the plan's spelling, and else the text's first fault; no
-//! spelling begins another (`one_text`). The spelling is in `specs/Spellings.antt`, the reading with its faults in
-//! `specs/Texts.antt` and `specs/PlanTexts.antt`. Start at `read_plan`.
+//! Promised: each plan and each sheet has one text. `read_plan` and `read_sheet` give what a text spells, or the text's
+//! first fault; `write_plan` and `write_sheet` write it to a `Counted` writer, or else a write failed and a beginning of
+//! the text went out.
 //!
-//! Texts of sheets have heading, server lines, places, sets and costs alike, so the modules that read these are public for
-//! the crate `dual_cert_sheet`.
+//! This crate passes on, for the crates above, what stands in four: `dual_cert_text` and `dual_cert_sheet` read,
+//! `dual_cert_write` and `dual_cert_sheet_write` write. Start at `read_plan`.
 #![tactic(auto)]
 
-mod fault;
-pub mod heading;
-pub mod kind_words;
-mod plan_draft;
-mod plan_text;
-mod row_line;
-pub mod server_line;
-pub mod words;
-
 pub use dual_cert_plan::{Plan, PricedServer, Server, Sheet};
-pub use fault::{ReadError, TextFault};
-pub use plan_text::{one_text, read_plan};
+pub use dual_cert_sheet::{never_a_plan, one_text as one_sheet_text, read_sheet};
+pub use dual_cert_sheet_write::write_sheet;
+pub use dual_cert_text::{ReadError, TextFault, one_text as one_plan_text, read_plan};
+pub use dual_cert_write::{WriteFailed, write_plan};
 
 #[cfg(test)]
 mod tests;

@@ -12,14 +12,14 @@ use Rattle.lb_types_text.proofs.Joins.{HasNo, parts_join, free_join}
 use Rattle.lb_types_pins.specs.declared.kind.Group.{Group}
 use Rattle.dual_cert_plan.specs.declared.server.Server.{Server}
 use Rattle.dual_cert_plan.specs.declared.server.PricedServer.{PricedServer}
-use Rattle.dual_cert.specs.declared.kind_words.SetWord.{SetWord}
-use Rattle.dual_cert.specs.RowLines.{place_of, is_open, set_of, cost_of}
-use Rattle.dual_cert.specs.Spellings.{place_word, set_word}
-use Rattle.dual_cert.specs.Words.{positive_of}
-use Rattle.dual_cert.proofs.RowTexts.{positive_found, positive_again, place_found, place_again, set_found, set_again, cost_found, cost_again, place_free, set_free, cost_free}
-use Rattle.dual_cert.proofs.ServerTexts.{Distinct, above_mark, digits_free}
-use Rattle.dual_cert.proofs.Steps.{bind_some}
-use Rattle.dual_cert.proofs.WholeTexts.{gap_is_no_end}
+use Rattle.dual_cert_text.specs.declared.kind_words.SetWord.{SetWord}
+use Rattle.dual_cert_text.specs.RowLines.{place_of, is_open, set_of, cost_of}
+use Rattle.dual_cert_text.specs.Spellings.{place_word, set_word}
+use Rattle.dual_cert_text.specs.Words.{positive_of}
+use Rattle.dual_cert_text.proofs.RowTexts.{positive_found, positive_again, place_found, place_again, set_found, set_again, cost_found, cost_again, place_free, set_free, cost_free}
+use Rattle.dual_cert_text.proofs.ServerTexts.{Distinct, above_mark, digits_free}
+use Rattle.dual_cert_text.proofs.Steps.{bind_some}
+use Rattle.dual_cert_text.proofs.WholeTexts.{gap_is_no_end}
 use Rattle.dual_cert_sheet.specs.declared.group_line.GroupWords.{GroupWords}
 use Rattle.dual_cert_sheet.specs.GroupLines.{group_words_of}
 use Rattle.dual_cert_sheet.specs.SheetTexts.{at_no_price, group_of}

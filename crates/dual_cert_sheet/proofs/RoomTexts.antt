@@ -13,14 +13,14 @@ use Rattle.lb_types_text.proofs.Numerals.{numeral_again}
 use Rattle.dual_cert_plan.specs.declared.server.Server.{Server}
 use Rattle.dual_cert_plan.specs.declared.server.PricedServer.{PricedServer}
 use Rattle.dual_cert_plan.specs.Plans.{servers_of}
-use Rattle.dual_cert.specs.declared.fault.TextFault.TheVariants.{BadLine}
-use Rattle.dual_cert.specs.declared.server_line.Usage.{Usage}
-use Rattle.dual_cert.specs.declared.server_line.ServerWords.{ServerWords}
-use Rattle.dual_cert.specs.ServerLines.{server_named, usage_of, server_words_of, in_range, priced_server, server_at}
-use Rattle.dual_cert.specs.Words.{keyed}
-use Rattle.dual_cert.proofs.ServerTexts.{in_range_found, in_range_again, above_mark, digits_free, name_free}
-use Rattle.dual_cert.proofs.Steps.{and_true, bind_ok, bind_some, ok_or_ok, if_err, if_none, bytes_is}
-use Rattle.dual_cert.proofs.WholeTexts.{keyed_found, gap_is_no_end}
+use Rattle.dual_cert_text.specs.declared.fault.TextFault.TheVariants.{BadLine}
+use Rattle.dual_cert_text.specs.declared.server_line.Usage.{Usage}
+use Rattle.dual_cert_text.specs.declared.server_line.ServerWords.{ServerWords}
+use Rattle.dual_cert_text.specs.ServerLines.{server_named, usage_of, server_words_of, in_range, priced_server, server_at}
+use Rattle.dual_cert_text.specs.Words.{keyed}
+use Rattle.dual_cert_text.proofs.ServerTexts.{in_range_found, in_range_again, above_mark, digits_free, name_free}
+use Rattle.dual_cert_text.proofs.Steps.{and_true, bind_ok, bind_some, ok_or_ok, if_err, if_none, bytes_is}
+use Rattle.dual_cert_text.proofs.WholeTexts.{keyed_found, gap_is_no_end}
 use Rattle.dual_cert_sheet.specs.SheetTexts.{free_server, at_no_price}
 use Rattle.dual_cert_sheet.specs.SheetSpellings.{room_words, sheet_server_line}
 

@@ -22,19 +22,19 @@ use Rattle.lb_types_pins.proofs.Pairs.{AllPairs-nil}
 use Rattle.dual_cert_plan.specs.declared.server.Server.{Server}
 use Rattle.dual_cert_plan.specs.Plans.{PlanParts}
 use Rattle.dual_cert_plan.specs.Sheets.{SheetParts, IsSheet, IsKind, is_usable}
-use Rattle.dual_cert.specs.declared.fault.TextFault.{TextFault}
-use Rattle.dual_cert.specs.declared.fault.TextFault.TheVariants.{BadLine}
-use Rattle.dual_cert.specs.declared.fault.ReadError.{ReadError}
-use Rattle.dual_cert.specs.Faults.{Gives}
-use Rattle.dual_cert.specs.RowLines.{is_open}
-use Rattle.dual_cert.specs.ServerLines.{server_named, server_at}
-use Rattle.dual_cert.specs.Spellings.{line_of_words, text_of_lines, heading_lines, plan_lines, spelling}
-use Rattle.dual_cert.specs.Texts.{reading}
-use Rattle.dual_cert.proofs.PlanLaws.{distinct_priced, all_priced, ends_alike, ends_again}
-use Rattle.dual_cert.proofs.RowTexts.{open_is_usable}
-use Rattle.dual_cert.proofs.ServerTexts.{Distinct, nobody, named_none, named_none_again}
-use Rattle.dual_cert.proofs.Steps.{and_true, bind_ok, ok_or_ok, unless_err, if_err, either, bytes_is}
-use Rattle.dual_cert.proofs.WholeTexts.{Builds, Leads, no_mark, text_found, text_again, text_alone}
+use Rattle.dual_cert_text.specs.declared.fault.TextFault.{TextFault}
+use Rattle.dual_cert_text.specs.declared.fault.TextFault.TheVariants.{BadLine}
+use Rattle.dual_cert_text.specs.declared.fault.ReadError.{ReadError}
+use Rattle.dual_cert_text.specs.Faults.{Gives}
+use Rattle.dual_cert_text.specs.RowLines.{is_open}
+use Rattle.dual_cert_text.specs.ServerLines.{server_named, server_at}
+use Rattle.dual_cert_text.specs.Spellings.{line_of_words, text_of_lines, heading_lines, plan_lines, spelling}
+use Rattle.dual_cert_text.specs.Texts.{reading}
+use Rattle.dual_cert_text.proofs.PlanLaws.{distinct_priced, all_priced, ends_alike, ends_again}
+use Rattle.dual_cert_text.proofs.RowTexts.{open_is_usable}
+use Rattle.dual_cert_text.proofs.ServerTexts.{Distinct, nobody, named_none, named_none_again}
+use Rattle.dual_cert_text.proofs.Steps.{and_true, bind_ok, ok_or_ok, unless_err, if_err, either, bytes_is}
+use Rattle.dual_cert_text.proofs.WholeTexts.{Builds, Leads, no_mark, text_found, text_again, text_alone}
 use Rattle.dual_cert_sheet.specs.declared.group_line.GroupWords.{GroupWords}
 use Rattle.dual_cert_sheet.specs.GroupLines.{group_words_of}
 use Rattle.dual_cert_sheet.specs.SheetSpellings.{room_words, sheet_server_line, group_line, sheet_lines, sheet_spelling}

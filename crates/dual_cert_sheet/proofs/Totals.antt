@@ -7,8 +7,8 @@ use Rattle.std.proofs.lemmas.List.Sums.{sum_by_push}
 use Rattle.lb_types_pins.specs.declared.kind.Group.{Group}
 use Rattle.dual_cert_plan.specs.declared.server.PricedServer.{PricedServer}
 use Rattle.dual_cert_plan.specs.Plans.{servers_of}
-use Rattle.dual_cert.specs.ServerLines.{server_named}
-use Rattle.dual_cert.proofs.ServerTexts.{named_none}
+use Rattle.dual_cert_text.specs.ServerLines.{server_named}
+use Rattle.dual_cert_text.proofs.ServerTexts.{named_none}
 use Rattle.dual_cert_sheet.specs.DraftFields.{KeepsTotals}
 use Rattle.dual_cert_sheet.specs.SheetTexts.{free_server, at_no_price}
 

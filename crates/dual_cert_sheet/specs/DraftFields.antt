@@ -3,7 +3,7 @@ use Rattle.std.specs.Prelude.{◌≡◌, ℕ, ◌≤◌, Bool, List, length, sum
 use Rattle.lb_types_pins.specs.declared.kind.Group.{Group}
 use Rattle.dual_cert_plan.specs.declared.server.PricedServer.{PricedServer}
 use Rattle.dual_cert_plan.specs.Plans.{servers_of}
-use Rattle.dual_cert.specs.ServerLines.{AreDistinct}
+use Rattle.dual_cert_text.specs.ServerLines.{AreDistinct}
 use Rattle.dual_cert_sheet.specs.SheetTexts.{at_no_price, needs_costs}
 
 -- few servers with names of their own, at no price, and the count and the need of the groups as they are

@@ -2,8 +2,8 @@
 -- move. Numbers are of any size, and a set's names in any order.
 use Rattle.std.specs.Prelude.{ℕ, Bool, Option, Some, None, List, ◌∷◌}
 use Rattle.dual_cert_plan.specs.declared.server.PricedServer.{PricedServer}
-use Rattle.dual_cert.specs.RowLines.{place_of, set_of, cost_of}
-use Rattle.dual_cert.specs.Words.{◌>>=◌, positive_of}
+use Rattle.dual_cert_text.specs.RowLines.{place_of, set_of, cost_of}
+use Rattle.dual_cert_text.specs.Words.{◌>>=◌, positive_of}
 use Rattle.dual_cert_sheet.specs.declared.group_line.GroupWords.{GroupWords}
 
 -- the words behind `group`: COUNT PLACE SET, and COST

@@ -8,11 +8,11 @@ use Rattle.lb_types_pins.specs.Kinds.{kind_before}
 use Rattle.dual_cert_plan.specs.declared.server.Server.{Server}
 use Rattle.dual_cert_plan.specs.declared.server.PricedServer.{PricedServer}
 use Rattle.dual_cert_plan.specs.Sheets.{SheetParts}
-use Rattle.dual_cert.specs.declared.fault.TextFault.{TextFault}
-use Rattle.dual_cert.specs.declared.fault.TextFault.TheVariants.{BadLine, TooLarge, NotCanonical}
-use Rattle.dual_cert.specs.Faults.{◌>>=◌}
-use Rattle.dual_cert.specs.ServerLines.{server_at}
-use Rattle.dual_cert.specs.Texts.{Format, reading}
+use Rattle.dual_cert_text.specs.declared.fault.TextFault.{TextFault}
+use Rattle.dual_cert_text.specs.declared.fault.TextFault.TheVariants.{BadLine, TooLarge, NotCanonical}
+use Rattle.dual_cert_text.specs.Faults.{◌>>=◌}
+use Rattle.dual_cert_text.specs.ServerLines.{server_at}
+use Rattle.dual_cert_text.specs.Texts.{Format, reading}
 use Rattle.dual_cert_sheet.specs.declared.group_line.GroupWords.{GroupWords}
 use Rattle.dual_cert_sheet.specs.GroupLines.{group_words_of}
 

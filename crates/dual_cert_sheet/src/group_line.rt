@@ -1,10 +1,10 @@
 ghost use Rattle.std.specs.Prelude.{◌≡◌, ◌≤◌, length};
-ghost use Rattle.dual_cert.specs.ServerLines.{AreDistinct};
+ghost use Rattle.dual_cert_text.specs.ServerLines.{AreDistinct};
 ghost use Rattle.dual_cert_sheet.specs.GroupLines.{group_words_of};
 
-use dual_cert::kind_words::{SetWord, read_cost, read_place, read_set};
-use dual_cert::words::read_positive;
 use dual_cert_plan::PricedServer;
+use dual_cert_text::kind_words::{SetWord, read_cost, read_place, read_set};
+use dual_cert_text::words::read_positive;
 use lb_types::Place;
 use lb_types_text::Parts;
 

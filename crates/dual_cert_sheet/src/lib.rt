@@ -9,8 +9,8 @@ mod group_line;
 mod sheet_draft;
 mod sheet_text;
 
-pub use dual_cert::{ReadError, TextFault};
 pub use dual_cert_plan::{Server, Sheet};
+pub use dual_cert_text::{ReadError, TextFault};
 pub use sheet_text::{never_a_plan, one_text, read_sheet};
 
 #[cfg(test)]

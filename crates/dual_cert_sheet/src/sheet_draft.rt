@@ -1,15 +1,16 @@
-ghost use Rattle.std.specs.Prelude.{◌≡◌, ◌+◌, ◌≤◌, ◌||◌, ◌==◌, not, IfOk};
+ghost use Rattle.std.specs.Prelude.{◌≡◌, ◌+◌, ◌<◌, ◌≤◌, ◌||◌, ◌==◌, false, not, length, IfOk, OnOk};
 ghost use Rattle.lb_types_text.specs.Parts.{parts};
 ghost use Rattle.dual_cert_plan.specs.Plans.{servers_of};
 ghost use Rattle.dual_cert_plan.specs.Sheets.{IsSheet};
-ghost use Rattle.dual_cert.specs.Faults.{Gives};
+ghost use Rattle.dual_cert_text.specs.Faults.{Gives};
+ghost use Rattle.dual_cert_text.specs.ServerLines.{server_at};
 ghost use Rattle.dual_cert_sheet.specs.SheetTexts.{add_line, add_server, add_group, comes_next, group_of, may_end, next_group};
 
 use crate::group_line::{GroupWords, read_group_words};
-use dual_cert::server_line::read_server;
-use dual_cert::words::is;
-use dual_cert::{ReadError, TextFault};
 use dual_cert_plan::{PricedServer, Server, Sheet};
+use dual_cert_text::server_line::read_server;
+use dual_cert_text::words::is;
+use dual_cert_text::{ReadError, TextFault};
 use lb_types_pins::{Group, PinKind};
 use lb_types_text::Parts;
 use std::alloc::{AllocError, Global};
@@ -84,7 +85,7 @@ impl SheetDraft {
         if !self.groups.is_empty() {
             return Err(ReadError::Fault(TextFault::BadLine(number)));
         }
-        let server = read_server(number, false, &self.servers, words)?;
+        let server = read_free_server(number, &self.servers, words)?;
         self.servers.push(server)?;
         Ok(())
     }
@@ -124,6 +125,18 @@ fn servers_of(alloc: Global, servers: &[PricedServer]) -> Result<Vec<Server>, Al
     ensures { IfOk result (λ own. own.items ≡ servers_of servers.now) }
 {
     servers.iter().map(|priced| priced.server).collect(alloc)
+}
+
+/// The server that line `number` declares behind these servers. A sheet has no prices.
+fn read_free_server(
+    number: u64,
+    servers: &[PricedServer],
+    words: &mut Parts,
+) -> Result<PricedServer, TextFault>
+    ensures exact { result ≡ server_at number false servers.now words.old }
+    ensures few { OnOk result (length servers.now < 128) }
+{
+    read_server(number, false, servers, words)
 }
 
 /// The group that a line says, behind groups of `count` pins.

@@ -2,17 +2,17 @@ ghost use Rattle.std.specs.Prelude.{◌≡◌, ◌≢◌, ℕ, ◌+◌, ◌^◌,
 ghost use Rattle.lb_types_text.specs.Parts.{parts};
 ghost use Rattle.dual_cert_plan.specs.Plans.{PlanParts};
 ghost use Rattle.dual_cert_plan.specs.Sheets.{SheetParts, IsSheet};
-ghost use Rattle.dual_cert.specs.Faults.{Gives};
-ghost use Rattle.dual_cert.specs.Spellings.{spelling};
-ghost use Rattle.dual_cert.specs.Texts.{body_at, end_at, is_nothing, reading};
+ghost use Rattle.dual_cert_text.specs.Faults.{Gives};
+ghost use Rattle.dual_cert_text.specs.Spellings.{spelling};
+ghost use Rattle.dual_cert_text.specs.Texts.{body_at, end_at, is_nothing, reading};
 ghost use Rattle.dual_cert_sheet.specs.SheetSpellings.{sheet_spelling};
 ghost use Rattle.dual_cert_sheet.specs.SheetTexts.{sheet_format, sheet_of_text};
 
 use crate::sheet_draft::SheetDraft;
-use dual_cert::heading::read_heading;
-use dual_cert::words::is;
-use dual_cert::{ReadError, TextFault};
 use dual_cert_plan::Sheet;
+use dual_cert_text::heading::read_heading;
+use dual_cert_text::words::is;
+use dual_cert_text::{ReadError, TextFault};
 use lb_types_text::cut;
 use std::alloc::Global;
 
@@ -59,7 +59,7 @@ fn read_whole(alloc: Global, text: &[u8]) -> Result<Sheet, ReadError>
 }
 
 /// What the text is read as, line by line.
-#[tactic(auto, unfolding(dual_cert::specs::Texts::reading, crate::specs::SheetTexts::sheet_format))]
+#[tactic(auto, unfolding(dual_cert_text::specs::Texts::reading, crate::specs::SheetTexts::sheet_format))]
 fn read_draft(alloc: Global, text: &[u8]) -> Result<SheetDraft, ReadError>
     ensures { Gives (λ d. d) result (reading sheet_format text.now) }
 {
@@ -86,7 +86,7 @@ fn read_body(mut draft: SheetDraft, text: &[u8]) -> Result<SheetDraft, ReadError
 }
 
 /// The draft, where the text may end behind line `number`, which is `end`.
-#[tactic(auto, unfolding(dual_cert::specs::Texts::end_at, crate::specs::SheetTexts::sheet_format))]
+#[tactic(auto, unfolding(dual_cert_text::specs::Texts::end_at, crate::specs::SheetTexts::sheet_format))]
 fn end(draft: SheetDraft, number: u64, rest: &[u8]) -> Result<SheetDraft, ReadError>
     requires { number + 1 < 2 ^ 64 }
     ensures { Gives (λ d. d) result (end_at sheet_format number draft (parts 10 rest.now)) }

@@ -1,6 +1,6 @@
 use crate::{ReadError, TextFault, read_sheet};
 use TextFault::{BadLine, NotCanonical, TooLarge, Truncated};
-use dual_cert::read_plan;
+use dual_cert_text::read_plan;
 use lb_types::{Place, ServerId, ServerSet};
 use lb_types_pins::{Group, PinKind};
 use std::alloc::{AllocError, Global};

@@ -5,7 +5,7 @@ use Rattle.std.specs.List.{All}
 use Rattle.lb_types_pins.specs.declared.kind.Group.{Group}
 use Rattle.dual_cert_plan.specs.declared.server.Server.{Server}
 use Rattle.dual_cert_plan.specs.Sheets.{SheetParts, IsSheet}
-use Rattle.dual_cert.specs.Spellings.{line_of_words, text_of_lines, heading_lines, place_word, set_word}
+use Rattle.dual_cert_text.specs.Spellings.{line_of_words, text_of_lines, heading_lines, place_word, set_word}
 use Rattle.dual_cert_sheet.specs.SheetSpellings.{sheet_server_line, group_line, sheet_lines, sheet_spelling}
 use Rattle.dual_cert_sheet.specs.SheetTexts.{at_no_price, needs_costs}
 use Rattle.dual_cert_write.specs.Sending.{cost_words, line_end, HasListedSet}

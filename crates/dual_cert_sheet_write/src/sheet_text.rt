@@ -1,7 +1,7 @@
 ghost use Rattle.std.specs.Prelude.{◌≡◌, ◌≤◌, ◌∷◌, [], ◌++◌, map, length, All, Ok, OnOk, OnErr};
 ghost use Rattle.std.specs.Io.KnownBytes.{Appends};
 ghost use Rattle.lb_types_counted.specs.Writers.{AppendsFront, Rises};
-ghost use Rattle.dual_cert.specs.Spellings.{text_of_lines};
+ghost use Rattle.dual_cert_text.specs.Spellings.{text_of_lines};
 ghost use Rattle.dual_cert_sheet.specs.SheetSpellings.{sheet_server_line, group_line, sheet_spelling};
 ghost use Rattle.dual_cert_sheet.specs.SheetTexts.{needs_costs, sheet_of_text};
 ghost use Rattle.dual_cert_write.specs.Sending.{Sends, Sent, HasListedSet};

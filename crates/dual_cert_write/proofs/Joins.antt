@@ -3,7 +3,7 @@ use Rattle.std.proofs.Common.{◌≡◌, ℕ, ◌<◌, List, [], ◌∷◌, ◌+
 use Rattle.std.specs.Borrow.{Bor}
 use Rattle.std.specs.List.{join_with_byte}
 use Rattle.std.proofs.lemmas.List.{map_more}
-use Rattle.dual_cert.specs.Spellings.{line_of_words}
+use Rattle.dual_cert_text.specs.Spellings.{line_of_words}
 use Rattle.dual_cert_write.specs.Sending.{words_of}
 
 -- words behind other words

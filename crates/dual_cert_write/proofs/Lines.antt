@@ -11,8 +11,8 @@ use Rattle.dual_cert_plan.specs.declared.server.PricedServer.{PricedServer}
 use Rattle.dual_cert_plan.specs.declared.server.Server.{Server}
 use Rattle.dual_cert_plan.specs.Plans.{PlanParts, IsPlan, servers_of}
 use Rattle.dual_cert_plan.specs.Sheets.{is_usable}
-use Rattle.dual_cert.specs.PlanTexts.{needs_costs}
-use Rattle.dual_cert.specs.Spellings.{line_of_words, text_of_lines, heading_lines, place_word, set_word, server_line, row_line, plan_lines, spelling}
+use Rattle.dual_cert_text.specs.PlanTexts.{needs_costs}
+use Rattle.dual_cert_text.specs.Spellings.{line_of_words, text_of_lines, heading_lines, place_word, set_word, server_line, row_line, plan_lines, spelling}
 use Rattle.dual_cert_write.proofs.Joins.{join-append}
 use Rattle.dual_cert_write.specs.Sending.{cost_words, cost_text, line_end, HasListedSet}
 

@@ -8,7 +8,7 @@ use Rattle.lb_types_counted.proofs.Writes.{Appends-nil, Appends-then, ≤-Rises}
 use Rattle.std.specs.Io.KnownBytes.{Appends}
 use Rattle.std.specs.Result.{OnOk, OnErr}
 use Rattle.std.specs.Borrow.{Bor}
-use Rattle.dual_cert.specs.Spellings.{line_of_words, text_of_lines}
+use Rattle.dual_cert_text.specs.Spellings.{line_of_words, text_of_lines}
 use Rattle.dual_cert_write.specs.Sending.{Sent, Sends, words_of}
 use Rattle.dual_cert_write.proofs.Joins.{words-more}
 use Rattle.dual_cert_write.proofs.Lines.{text-more, text-nil}

@@ -6,7 +6,7 @@ use Rattle.std.proofs.lemmas.List.{length-map, map_push}
 use Rattle.lb_types.specs.Servers.{has, members_below, members}
 use Rattle.lb_types.proofs.Sets.{has-empty}
 use Rattle.dual_cert_plan.specs.declared.server.PricedServer.{PricedServer}
-use Rattle.dual_cert.specs.Spellings.{name_at, set_word}
+use Rattle.dual_cert_text.specs.Spellings.{name_at, set_word}
 use Rattle.dual_cert_write.specs.Sending.{member_text}
 use Rattle.dual_cert_write.proofs.Joins.{join-push}
 

@@ -5,7 +5,7 @@ use Rattle.std.specs.Fmt.{decimal}
 use Rattle.lb_types.specs.Servers.{has}
 use Rattle.lb_types_pins.specs.declared.kind.PinKind.{PinKind}
 use Rattle.dual_cert_plan.specs.declared.server.PricedServer.{PricedServer}
-use Rattle.dual_cert.specs.Spellings.{line_of_words, name_at, set_word}
+use Rattle.dual_cert_text.specs.Spellings.{line_of_words, name_at, set_word}
 use Rattle.lb_types_counted.specs.Writers.{WriterState, WritesWhole, WritesFront}
 
 -- what a sending did, by how it went

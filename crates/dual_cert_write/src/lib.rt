@@ -1,7 +1,7 @@
 //! Writing the text of a plan.
 //!
 //! Promised: `write_plan` writes the plan's one spelling, or else a write failed and a beginning of the spelling went out.
-//! The spelling is that of the crate `dual_cert`, in its `specs/Spellings.antt`. Nothing here takes memory. Start at
+//! The spelling is that of the crate `dual_cert_text`, in its `specs/Spellings.antt`. Nothing here takes memory. Start at
 //! `write_plan`.
 #![tactic(auto)]
 

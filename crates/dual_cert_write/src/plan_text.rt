@@ -2,8 +2,8 @@ ghost use Rattle.std.specs.Prelude.{◌≡◌, ◌≤◌, ◌∷◌, [], ◌++�
 ghost use Rattle.std.specs.Io.KnownBytes.{Appends};
 ghost use Rattle.lb_types_counted.specs.Writers.{AppendsFront, Rises};
 ghost use Rattle.dual_cert_plan.specs.Plans.{IsPlan};
-ghost use Rattle.dual_cert.specs.PlanTexts.{needs_costs, plan_of_text};
-ghost use Rattle.dual_cert.specs.Spellings.{text_of_lines, server_line, row_line, spelling};
+ghost use Rattle.dual_cert_text.specs.PlanTexts.{needs_costs, plan_of_text};
+ghost use Rattle.dual_cert_text.specs.Spellings.{text_of_lines, server_line, row_line, spelling};
 ghost use Rattle.dual_cert_write.specs.Sending.{Sends, Sent, HasListedSet};
 
 use crate::WriteFailed;

@@ -1,6 +1,6 @@
 //! Sending a text piece by piece: once a write failed, nothing more is sent.
 ghost use Rattle.std.specs.Prelude.{◌∷◌, [], ◌++◌};
-ghost use Rattle.dual_cert.specs.Spellings.{line_of_words};
+ghost use Rattle.dual_cert_text.specs.Spellings.{line_of_words};
 ghost use Rattle.dual_cert_write.specs.Sending.{Sends, words_of};
 
 use crate::WriteFailed;

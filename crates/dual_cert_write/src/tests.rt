@@ -1,7 +1,7 @@
 //! Whole texts of plans, and writers that fail.
 
 use crate::{WriteFailed, write_plan};
-use dual_cert::read_plan;
+use dual_cert_text::read_plan;
 use lb_types_counted::Counted;
 use std::alloc::{AllocError, Global};
 use std::io;

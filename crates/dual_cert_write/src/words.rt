@@ -1,7 +1,7 @@
 //! What lines of plans and of sheets share: the heading, places, sets and costs.
 ghost use Rattle.std.specs.Prelude.{◌≡◌, ℕ, ◌<◌, ◌≤◌, true, map, length};
 ghost use Rattle.lb_types.specs.Servers.{has};
-ghost use Rattle.dual_cert.specs.Spellings.{text_of_lines, heading_lines, name_at, place_word, set_word};
+ghost use Rattle.dual_cert_text.specs.Spellings.{text_of_lines, heading_lines, name_at, place_word, set_word};
 ghost use Rattle.dual_cert_write.specs.Sending.{Sends, form_word, cost_text, member_text, line_end, HasListedSet};
 
 use crate::sending::{Sent, send, send_line};
@@ -75,7 +75,7 @@ fn name_of<S: Listed>(servers: &[S], server: ServerId) -> &[u8]
 }
 
 /// The word for a place.
-#[tactic(auto, unfolding(dual_cert::specs::Spellings::place_word))]
+#[tactic(auto, unfolding(dual_cert_text::specs::Spellings::place_word))]
 pub fn place_word<S: Listed>(servers: &[S], place: Place) -> &[u8]
     ensures { result.now ≡ place_word (map S.priced servers.now) place }
 {

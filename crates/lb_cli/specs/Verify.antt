@@ -3,7 +3,7 @@ use Rattle.std.specs.Prelude.{ℕ, Bool, true, false, ◌==◌, List, [], ◌∷
 use Rattle.std.specs.Fmt.{decimal}
 use Rattle.pin_set.specs.declared.totals.Score.{Score}
 use Rattle.dual_cert_plan.specs.Plans.{PlanParts, own_sheet}
-use Rattle.dual_cert.specs.declared.fault.TextFault.{TextFault}
+use Rattle.dual_cert.specs.TextFault.{TextFault}
 use Rattle.dual_cert.specs.Faults.{fault_text}
 use Rattle.dual_cert.specs.PlanTexts.{plan_of_text}
 use Rattle.cert_check.specs.declared.fault.CheckFault.{CheckFault}

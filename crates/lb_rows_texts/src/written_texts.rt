@@ -1,10 +1,7 @@
 use cert_check::{CheckFault, check};
-use dual_cert::{Plan, Sheet, read_plan};
-use dual_cert_sheet::read_sheet;
-use dual_cert_sheet_write::write_sheet;
-use dual_cert_write::write_plan;
+use dual_cert::{Plan, Sheet, read_plan, read_sheet, write_plan, write_sheet};
 use lb_cli::{Finding, verify};
-use lb_types_counted::Counted;
+use lb_types::Counted;
 use pin_set::Score;
 use std::alloc::Global;
 use std::test::Fail;

@@ -1,7 +1,8 @@
-//! The small values that every layer speaks of: servers, sets of servers, places, moments and names.
+//! The small values that every layer speaks of: servers, sets of servers, places, moments and names; and a writer that
+//! counts its failures.
 //!
-//! Promised: a set is exactly the servers that were put into it, and a name is 1 to 64 lawful bytes.
-//! Start at `ServerSet`, whose definition is in `specs/Servers.antt`.
+//! Promised: a set is exactly the servers that were put into it, and a name is 1 to 64 lawful bytes. `Counted` is passed on
+//! from the crate `lb_types_counted`. Start at `ServerSet`, whose definition is in `specs/Servers.antt`.
 #![tactic(auto)]
 
 mod moment;
@@ -9,6 +10,7 @@ mod name;
 mod server_id;
 mod server_set;
 
+pub use lb_types_counted::Counted;
 pub use moment::Moment;
 pub use name::{Name, NameFault};
 pub use server_id::{Place, ServerId};

@@ -1,4 +1,5 @@
 ghost use Rattle.std.specs.Prelude.{◌≡◌, ◌^◌, ◌≤◌, length, map, IfOk};
+ghost use Rattle.dual_cert_plan.specs.Sheets.{IsSheet};
 ghost use Rattle.pin_set.specs.Rows.{AreGroupsOf};
 ghost use Rattle.pin_set.specs.Views.{kind_of};
 ghost use Rattle.pin_groups_sheet.specs.Sheets.{StandsFor};
@@ -18,6 +19,7 @@ use std::alloc::{AllocError, Global};
 pub fn group(alloc: Global, view: &View, version: u64) -> Result<Sheet, AllocError>
     requires { version ≤ 2 ^ 63 }
     ensures version { IfOk result (λ sheet. sheet.version ≡ version) }
+    ensures lawful { IfOk result (λ sheet. IsSheet sheet) }
     ensures exact { IfOk result (λ sheet. StandsFor sheet view.now) }
 {
     let servers = listed_servers(alloc, view.usable(), view.servers())?;

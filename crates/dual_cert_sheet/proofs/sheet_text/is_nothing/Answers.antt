@@ -1,5 +1,5 @@
 use Rattle.std.proofs.Common.{sym, ◌∙◌}
-use Rattle.dual_cert.proofs.Bodies.{is_nothing-parts}
+use Rattle.dual_cert_text.proofs.Bodies.{is_nothing-parts}
 use Rattle.dual_cert_sheet.proofs.sheet_text.is_nothing.Goals as goal
 
 pub returns : goal.returns

@@ -1,6 +1,6 @@
 use Rattle.std.proofs.Common.{arith, sym, ap, ◌∙◌, length, length-append}
 use Rattle.std.proofs.lemmas.Result.{err_from_is_err_and}
-use Rattle.dual_cert.proofs.Bodies.{body_end, body_more, body_none, Fails-bind}
+use Rattle.dual_cert_text.proofs.Bodies.{body_end, body_more, body_none, Fails-bind}
 use Rattle.dual_cert_sheet.specs.SheetTexts.{sheet_format}
 use Rattle.dual_cert_sheet.proofs.sheet_text.read_body.Goals as goal
 

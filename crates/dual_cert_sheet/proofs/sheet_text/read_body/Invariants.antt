@@ -1,7 +1,7 @@
 use Rattle.std.proofs.Common.{◌≡◌, ◌+◌, ◌≤◌, length}
 use Rattle.lb_types_text.specs.Parts.{parts}
 use Rattle.dual_cert_sheet.specs.SheetTexts.{sheet_format}
-use Rattle.dual_cert.specs.Texts.{body_at}
+use Rattle.dual_cert_text.specs.Texts.{body_at}
 use Rattle.dual_cert_sheet.proofs.sheet_text.read_body.Given as goal
 
 -- the lines that are left, behind the draft, are read as all of them

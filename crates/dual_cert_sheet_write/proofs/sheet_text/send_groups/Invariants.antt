@@ -1,5 +1,5 @@
 use Rattle.std.proofs.Common.{map, take}
-use Rattle.dual_cert.specs.Spellings.{text_of_lines}
+use Rattle.dual_cert_text.specs.Spellings.{text_of_lines}
 use Rattle.dual_cert_sheet.specs.SheetSpellings.{group_line}
 use Rattle.dual_cert_write.specs.Sending.{Sends}
 use Rattle.dual_cert_sheet_write.proofs.sheet_text.send_groups.Given as goal

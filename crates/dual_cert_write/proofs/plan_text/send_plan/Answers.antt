@@ -1,6 +1,6 @@
 use Rattle.std.proofs.Common.{refl}
-use Rattle.dual_cert.proofs.PlanLaws.{plan_again}
-use Rattle.dual_cert.specs.PlanTexts.{plan_of_text}
+use Rattle.dual_cert_text.proofs.PlanLaws.{plan_again}
+use Rattle.dual_cert_text.specs.PlanTexts.{plan_of_text}
 use Rattle.dual_cert_write.proofs.Lines.{spelling_parts, few_servers, sets_listed}
 use Rattle.dual_cert_write.proofs.Sends.{Sent-four}
 use Rattle.dual_cert_write.proofs.plan_text.send_plan.Goals as goal

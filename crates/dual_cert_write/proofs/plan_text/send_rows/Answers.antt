@@ -1,4 +1,4 @@
-use Rattle.dual_cert.specs.Spellings.{row_line}
+use Rattle.dual_cert_text.specs.Spellings.{row_line}
 use Rattle.dual_cert_write.proofs.Sends.{Sends-no_lines, Sends-line}
 use Rattle.dual_cert_write.proofs.plan_text.send_rows.Goals as goal
 

@@ -1,5 +1,5 @@
 use Rattle.std.proofs.Common.{map, take}
-use Rattle.dual_cert.specs.Spellings.{text_of_lines, row_line}
+use Rattle.dual_cert_text.specs.Spellings.{text_of_lines, row_line}
 use Rattle.dual_cert_write.specs.Sending.{Sends}
 use Rattle.dual_cert_write.proofs.plan_text.send_rows.Given as goal
 

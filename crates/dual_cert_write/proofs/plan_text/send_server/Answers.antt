@@ -1,4 +1,4 @@
-use Rattle.dual_cert.specs.Spellings.{server_line}
+use Rattle.dual_cert_text.specs.Spellings.{server_line}
 use Rattle.dual_cert_write.proofs.plan_text.send_server.Goals as goal
 
 pub returns-in_default : goal.returns-in_default

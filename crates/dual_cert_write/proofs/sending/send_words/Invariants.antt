@@ -1,5 +1,5 @@
 use Rattle.std.proofs.Common.{take}
-use Rattle.dual_cert.specs.Spellings.{line_of_words}
+use Rattle.dual_cert_text.specs.Spellings.{line_of_words}
 use Rattle.dual_cert_write.specs.Sending.{Sends, words_of}
 use Rattle.dual_cert_write.proofs.sending.send_words.Given as goal
 

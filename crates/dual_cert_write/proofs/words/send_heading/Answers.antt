@@ -1,4 +1,4 @@
-use Rattle.dual_cert.specs.Spellings.{heading_lines}
+use Rattle.dual_cert_text.specs.Spellings.{heading_lines}
 use Rattle.dual_cert_write.proofs.Lines.{text_of_two}
 use Rattle.dual_cert_write.proofs.Sends.{Sends-then}
 use Rattle.dual_cert_write.proofs.words.send_heading.Goals as goal

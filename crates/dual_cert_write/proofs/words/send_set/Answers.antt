@@ -1,5 +1,5 @@
 use Rattle.std.proofs.Common.{refl, arith, map}
-use Rattle.dual_cert.specs.Spellings.{set_word}
+use Rattle.dual_cert_text.specs.Spellings.{set_word}
 use Rattle.dual_cert_write.proofs.Sends.{Sends-then}
 use Rattle.dual_cert_write.proofs.Sets.{first_member, names-more, some_more, set_word-names}
 use Rattle.dual_cert_write.proofs.words.send_set.Goals as goal

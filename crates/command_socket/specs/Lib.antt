@@ -1,0 +1,5 @@
+pub use Rattle.command_socket_words.specs.Commands
+pub use Rattle.command_socket_words.specs.Faults
+pub use Rattle.command_socket_words.specs.Lines
+pub use Rattle.command_socket_words.specs.Meanings
+pub use Rattle.command_socket_words.specs.Words

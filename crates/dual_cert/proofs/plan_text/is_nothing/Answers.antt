@@ -1,6 +1,0 @@
-use Rattle.std.proofs.Common.{sym, ◌∙◌}
-use Rattle.dual_cert.proofs.Bodies.{is_nothing-parts}
-use Rattle.dual_cert.proofs.plan_text.is_nothing.Goals as goal
-
-pub returns : goal.returns
-returns c = c.is_empty.ensures ∙ sym (is_nothing-parts c.args.rest.now)

@@ -1,5 +1,0 @@
-use Rattle.dual_cert.proofs.PlanLaws.{plan_alone}
-use Rattle.dual_cert.proofs.plan_text.one_text.Goals as goal
-
-pub returns : goal.returns
-returns c = λ a b rest kept_a kept_b begins. plan_alone a b rest kept_a kept_b begins
