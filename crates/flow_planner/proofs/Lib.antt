@@ -1,0 +1,2 @@
+pub mod ServerLists
+pub mod Writing

@@ -1,0 +1,14 @@
+//! The planner: where each pin is to go so that as few as can be go without a server, and of such plans one that moves pins at
+//! the least cost.
+//!
+//! Promised: `plan` answers for every sheet, unless memory is short, and a checker accepts each plan that it gives. It pushes
+//! pins no more often than there are pins, and the looks that it takes for that are bounded. Start at `planner`.
+#![tactic(auto)]
+
+mod planned;
+mod planner;
+mod sheet_parts;
+mod written;
+
+pub use planned::Planned;
+pub use planner::plan;

@@ -1,0 +1,200 @@
+//! The planner against all assignments of the pins, on small sheets.
+//!
+//! What makes no difference is left out of the enumerations: the order of the servers (their capacities rise, and those that
+//! are off come last), and capacities above the number of pins.
+
+use crate::plain_sheet::{PlainKind, PlainSheet, Spot, usable};
+use crate::random_sheets::Dice;
+use cert_check::check;
+use flow_planner::plan;
+use std::alloc::{AllocError, Global};
+use std::collections::BTreeMap;
+use std::process::Abort;
+use std::test::Fail;
+
+/// All lists of `len` digits below a base.
+fn all_digits(alloc: Global, base: u8, len: usize) -> Result<Vec<Vec<u8>>, AllocError> {
+    let mut all = Vec::new(alloc);
+    all.push(Vec::new(alloc))?;
+    for _ in 0..len {
+        let mut longer = Vec::new(alloc);
+        for shorter in &all {
+            for digit in 0..base {
+                let mut digits = shorter.clone()?;
+                digits.push(digit)?;
+                longer.push(digits)?;
+            }
+        }
+        all = longer;
+    }
+    Ok(all)
+}
+
+/// All lists of `len` rising digits below a base.
+fn rising_digits(alloc: Global, base: u8, len: usize) -> Result<Vec<Vec<u8>>, AllocError> {
+    let mut all = Vec::new(alloc);
+    all.push(Vec::new(alloc))?;
+    for _ in 0..len {
+        let mut longer = Vec::new(alloc);
+        for shorter in &all {
+            for digit in shorter.last().copied().unwrap_or(0)..base {
+                let mut digits = shorter.clone()?;
+                digits.push(digit)?;
+                longer.push(digits)?;
+            }
+        }
+        all = longer;
+    }
+    Ok(all)
+}
+
+/// A pin of each kind that there can be: each place, each permitted set, cost 1 and cost 2.
+fn kinds(alloc: Global, servers: u8, usable: u8) -> Result<Vec<PlainKind>, AllocError> {
+    let mut kinds = Vec::new(alloc);
+    for place in 0..servers.saturating_add(1) {
+        for permitted in 0..=usable {
+            if permitted & usable == permitted {
+                for cost in 1..3 {
+                    kinds.push(PlainKind {
+                        place,
+                        permitted,
+                        cost,
+                    })?;
+                }
+            }
+        }
+    }
+    Ok(kinds)
+}
+
+/// The capacities that digits stand for, where one past the number of pins stands for a server that is off.
+fn capacities_of(
+    alloc: Global,
+    digits: &[u8],
+    pins: usize,
+) -> Result<Vec<Option<u32>>, AllocError> {
+    digits
+        .iter()
+        .map(|digit| if usize::from(*digit) > pins {
+            None
+        } else {
+            Some(u32::from(*digit))
+        })
+        .collect(alloc)
+}
+
+/// Asserts that the checker accepts the plan for the sheet, and that it does as well as the best of the assignments.
+fn assert_best(
+    rt: &impl Abort,
+    alloc: Global,
+    small: &PlainSheet,
+    assignments: &[Vec<Spot>],
+) -> Result<(), Fail> {
+    let sheet = small.sheet(alloc)?;
+    let planned = plan(alloc, &sheet)?;
+    let pins = small.pins(alloc)?;
+    let (Ok(score), Some(best)) = (
+        check(&sheet, planned.plan()),
+        small.best(&pins, assignments),
+    ) else {
+        return Err(Fail::new("a plan is accepted, and some assignment is best"));
+    };
+    assert_eq!(rt; score.pins, small.size(), "{pins:?}");
+    assert_eq!(rt; score.unplaced, best.unplaced, "{pins:?}");
+    assert_eq!(rt; score.cost, best.cost, "{pins:?}");
+    assert!(rt; planned.pushes() <= small.size(), "{pins:?}");
+    Ok(())
+}
+
+/// Tries all sheets of so many servers and pins, and gives their number.
+fn try_all(rt: &impl Abort, alloc: Global, servers: u8, pins: usize) -> Result<u64, Fail> {
+    let assignments = all_digits(alloc, servers.saturating_add(1), pins)?;
+    let off = (pins.saturating_add(1) % 254) as u8;
+    let mut tried = 0u64;
+    for rooms in &rising_digits(alloc, off + 1, usize::from(servers))? {
+        let capacities = capacities_of(alloc, rooms, pins)?;
+        let kinds = kinds(alloc, servers, usable(&capacities))?;
+        for chosen in &rising_digits(alloc, (kinds.len() % 256) as u8, pins)? {
+            let mut small = PlainSheet {
+                capacities: capacities_of(alloc, rooms, pins)?,
+                groups: BTreeMap::new(alloc),
+            };
+            for kind in chosen
+                .iter()
+                .filter_map(|kind| kinds.get(usize::from(*kind)))
+            {
+                small.add(*kind, 1)?;
+            }
+            assert_best(rt, alloc, &small, &assignments)?;
+            tried = tried.saturating_add(1);
+        }
+    }
+    Ok(tried)
+}
+
+#[test]
+fn plans_of_all_sheets_of_at_most_two_servers_are_best(rt: HostRuntime) -> Result<(), Fail> {
+    let mut tried = 0u64;
+    for servers in 0..3 {
+        for pins in 0..4 {
+            tried = tried.saturating_add(try_all(&rt, rt.alloc(), servers, pins)?);
+        }
+    }
+    // 1, 2, 3 and 4; 2, 20, 118 and 500; 3, 102, 2055 and 27512.
+    assert_eq!(rt; tried, 30322);
+    Ok(())
+}
+
+#[test]
+fn plans_of_all_sheets_of_three_servers_and_two_pins_are_best(rt: HostRuntime) -> Result<(), Fail> {
+    let mut tried = 0u64;
+    for pins in 0..3 {
+        tried = tried.saturating_add(try_all(&rt, rt.alloc(), 3, pins)?);
+    }
+    // 4, 392 and 24412.
+    assert_eq!(rt; tried, 24808);
+    Ok(())
+}
+
+/// A sheet of 3 servers and 3 to 5 pins.
+fn random_sheet(alloc: Global, dice: &mut Dice) -> Result<PlainSheet, AllocError> {
+    let mut small = PlainSheet {
+        capacities: Vec::new(alloc),
+        groups: BTreeMap::new(alloc),
+    };
+    for _ in 0..3 {
+        let room = dice.roll(4);
+        small
+            .capacities
+            .push(if room == 3 { None } else { Some(room) })?;
+    }
+    let usable = usable(&small.capacities);
+    for _ in 0..dice.roll(3).saturating_add(3) {
+        let kind = PlainKind {
+            place: dice.digit(4),
+            permitted: dice.digit(8) & usable,
+            cost: (dice.roll(2).saturating_add(1) % 1000) as u16,
+        };
+        small.add(kind, 1)?;
+    }
+    Ok(small)
+}
+
+// A seeded sample of the sheets of 3 servers and 3 to 5 pins.
+#[test]
+fn plans_of_a_sample_of_larger_sheets_are_best(rt: HostRuntime) -> Result<(), Fail> {
+    let alloc = rt.alloc();
+    let mut assignments = Vec::new(alloc);
+    for pins in 0..6 {
+        assignments.push(all_digits(alloc, 4, pins)?)?;
+    }
+    let mut dice = Dice::new(20261122);
+    for _ in 0..20000 {
+        let small = random_sheet(alloc, &mut dice)?;
+        let Some(own) = assignments.get(small.size() as usize) else {
+            return Err(Fail::new("a sheet has at most 5 pins"));
+        };
+        assert_best(&rt, alloc, &small, own)?;
+    }
+    Ok(())
+}
