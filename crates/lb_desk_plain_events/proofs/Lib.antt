@@ -1,0 +1,3 @@
+pub mod Expired
+pub mod Places
+pub mod Served

@@ -1,0 +1,21 @@
+//! What each event does to one backend, in its plainest form: lists that each event walks.
+//!
+//! Promised: each event's method of `MachineState` does what the definitions of `lb_desk_model` say of it, refusals among
+//! it, but for the version, which `MachineState` leaves alone. It is slow, and meant to be read: the fast desk is compared
+//! with it. Which server a request gets stands in `lb_desk_plain_picks`. Start at `MachineState`.
+#![tactic(auto)]
+
+mod changes;
+mod choosing;
+mod connections;
+mod expiry;
+mod names;
+mod pins;
+mod plans;
+mod serves;
+mod state;
+
+pub use state::MachineState;
+
+#[cfg(test)]
+mod tests;
