@@ -1,16 +1,14 @@
 -- Servers with the prices of their options, and the room of options, as lists.
-use Rattle.std.proofs.Common.{◌≡◌, get_or, Some, None, Option, ℕ, zero, suc, ◌+◌, ◌<◌, ◌≤◌, Bool, true, false, cond, List, [], ◌∷◌, ◌++◌, map, take, length, refl, sym, ap, ◌∙◌, add-one, arith}
+use Rattle.std.proofs.Common.{◌≡◌, get_or, ℕ, zero, suc, ◌+◌, ◌<◌, cond, List, [], ◌∷◌, map, length, refl, ap, ◌∙◌, arith}
 use Rattle.std.specs.List.{slice_get, enumerate_from}
-use Rattle.std.specs.Option.{option_map_or, option_and_then, is_some}
-use Rattle.std.specs.Prelude.{unwrap_or}
-use Rattle.std.proofs.lemmas.List.{length-map, get_or-map, map-append, take_more}
+use Rattle.std.specs.Option.{option_map_or, is_some}
+use Rattle.std.proofs.lemmas.List.{length-map, get_or-map}
 use Rattle.std.proofs.lemmas.List.FromFn.{length-enumerate_from, get_or-enumerate_from}
 use Rattle.dual_cert_plan.specs.declared.server.Server.{Server}
 use Rattle.dual_cert_plan.specs.declared.server.PricedServer.{PricedServer}
 use Rattle.dual_cert_plan.specs.Sheets.{is_usable}
 use Rattle.dual_cert_plan.specs.Plans.{servers_of}
 use Rattle.cert_check.specs.Verdict.{price_at}
-use Rattle.flow_planner_accepted.specs.Accepted.{capacities_of}
 use Rattle.flow_planner.specs.Plannings.{priced_server, priced_servers}
 
 servers-from : (price : ℕ → ℕ) (n : ℕ) (servers : List Server)
@@ -52,13 +50,3 @@ get_or-priced price servers i d e below =
     let at : 0 + i ≡ i = omega arith in
     get_or-map (priced_server price) (enumerate_from 0 servers) i start d (omega arith)
     ∙ ap (priced_server price) (get_or-enumerate_from 0 servers i start below ∙ rw at refl)
-
-abbrev room_of : Server → ℕ
-room_of s = unwrap_or s.capacity 0
-
--- one server more
-pub capacities-more : (servers : List Server) (i : ℕ) (server : Server) → i < length servers → server ≡ get_or servers i server
-    → capacities_of (take (i + 1) servers) ≡ capacities_of (take i servers) ++ unwrap_or server.capacity 0 ∷ []
-capacities-more servers i server within is =
-    let more : take (i + 1) servers ≡ take i servers ++ server ∷ [] = take_more servers i server within ∙ ap (λ (s : Server). take i servers ++ s ∷ []) (sym is) in
-    ap capacities_of more ∙ ap (λ (xs : List ℕ). 4294967295 ∷ xs) (map-append room_of (take i servers) (server ∷ []))

@@ -1,13 +1,11 @@
 -- What is written of a repaired state is accepted for the sheet that it speaks of.
-use Rattle.std.proofs.Common.{◌≡◌, Ok, Option, ℕ, zero, suc, ◌+◌, ◌*◌, ◌<◌, ◌≤◌, List, ◌++◌, length, take, drop, refl, sym, ap, ◌∙◌, subst, arith}
+use Rattle.std.proofs.Common.{◌≡◌, ℕ, suc, ◌+◌, ◌*◌, ◌≤◌, List, length, refl, sym, ap, ◌∙◌, subst, arith}
 use Rattle.std.specs.Prelude.{IsOk}
 use Rattle.std.specs.List.{sum_by}
-use Rattle.std.proofs.lemmas.List.{take-append-le, take_all}
 use Rattle.std.proofs.Math.Nat.{mul-le-mul_left}
 use Rattle.lb_types_pins.specs.declared.kind.Group.{Group}
 use Rattle.lb_types_pins.specs.declared.kind.Row.{Row}
 use Rattle.std.proofs.lemmas.Nat.{mul-le}
-use Rattle.pin_set.specs.Rows.{rows_score}
 use Rattle.dual_cert_plan.specs.declared.server.Server.{Server}
 use Rattle.dual_cert_plan.specs.declared.server.PricedServer.{PricedServer}
 use Rattle.dual_cert_plan.specs.Sheets.{SheetParts, IsSheet}
@@ -15,7 +13,7 @@ use Rattle.dual_cert_plan.specs.Plans.{PlanParts, plan_of_parts, servers_of, gro
 use Rattle.cert_check.specs.Verdict.{IsMadeFor, verdict}
 use Rattle.cert_check.proofs.Means.{ok-means}
 use Rattle.pin_set.specs.Costs.{sum_to}
-use Rattle.flow_planner_net.specs.Networks.{NetworkParts, options, size, count, no_group}
+use Rattle.flow_planner_net.specs.Networks.{NetworkParts, size, count, no_group}
 use Rattle.flow_planner_net.specs.States.{used_of}
 use Rattle.flow_planner_net.proofs.Sums.{sum_to-list}
 use Rattle.flow_planner_repair.specs.Repairs.{most_looks}
@@ -27,7 +25,7 @@ use Rattle.flow_planner.specs.Plannings.{priced_servers, planned_of, IsPlanned}
 use Rattle.flow_planner.proofs.ServerLists.{servers-priced, price-priced}
 
 -- the rows and the priced servers of a repaired state make an accepted plan
-pub written-accepted : (sheet : SheetParts) (used : ℕ → ℕ → ℕ) (price load : ℕ → ℕ) (servers : List PricedServer) (rows : List Row) → IsSheet sheet
+written-accepted : (sheet : SheetParts) (used : ℕ → ℕ → ℕ) (price load : ℕ → ℕ) (servers : List PricedServer) (rows : List Row) → IsSheet sheet
     → IsRepaired (network_of sheet) used price load → servers ≡ priced_servers price sheet.servers → rows ≡ rows_of (network_of sheet) used
     → IsAccepted sheet (plan_of_parts sheet.version servers rows)
 written-accepted sheet used price load servers rows lawful repaired servers_are rows_are =
@@ -81,15 +79,11 @@ planned-lawful sheet plan pushes looks version known =
     record { accepted = same ∙ known.accepted }
 
 -- the looks of one push, by servers and groups
-pub looks-le : (servers groups : ℕ) → suc servers * (groups * suc servers) ≤ (servers + 2) * (servers + 2) * (groups + 1)
+looks-le : (servers groups : ℕ) → suc servers * (groups * suc servers) ≤ (servers + 2) * (servers + 2) * (groups + 1)
 looks-le servers groups =
     let first = mul-le (suc servers) groups (servers + 2) (groups + 1) (omega arith) (omega arith) in
     let second = mul-le (suc servers * groups) (suc servers) ((servers + 2) * (groups + 1)) (servers + 2) first (omega arith) in
     omega (arith, second)
-
--- a list of one length that was lent and written
-pub written_back : (n : ℕ) (old new : List ℕ) → length new ≡ n → take n (new ++ drop (length new) old) ≡ new
-written_back n old new same = take-append-le n new (drop (length new) old) (omega arith) ∙ take_all n new (omega arith)
 
 -- all groups' pins
 pub pins-are : (network : NetworkParts) → sum_to (size network) (count network) ≡ sum_by (λ (g : Group). g.count) network.groups

@@ -1,9 +1,9 @@
 -- The rows of a group, one option after another.
-use Rattle.std.proofs.Common.{◌≡◌, get_or, Option, ℕ, zero, suc, ◌+◌, ◌<◌, ◌≤◌, Bool, true, false, cond, ltb, List, [], ◌∷◌, ◌++◌, length, refl, sym, ap, ◌∙◌, append_assoc, append-nil, add-one, arith}
+use Rattle.std.proofs.Common.{◌≡◌, Option, ℕ, ◌+◌, ◌<◌, ◌≤◌, Bool, cond, ltb, List, [], ◌∷◌, ◌++◌, refl, sym, ap, ◌∙◌, append_assoc, append-nil, add-one}
 use Rattle.std.proofs.lemmas.Bool.{lt-ltb, le-ltb}
 use Rattle.lb_types_pins.specs.declared.kind.PinKind.{PinKind}
 use Rattle.lb_types_pins.specs.declared.kind.Row.{Row}
-use Rattle.flow_planner_net.specs.Networks.{NetworkParts, options, size, place_of, group_at}
+use Rattle.flow_planner_net.specs.Networks.{NetworkParts, options, place_of, group_at}
 use Rattle.flow_planner_rows.specs.RowLists.{row_at, group_rows, rows_to}
 
 abbrev one_row : NetworkParts → (ℕ → ℕ → ℕ) → ℕ → ℕ → Bool → List Row

@@ -1,15 +1,35 @@
 -- Elements that are told apart by their numbers, and the view of such pins and servers.
-use Rattle.std.proofs.Common.{◌≡◌, ℕ, ◌+◌, ◌/◌, ◌%◌, ◌^◌, ◌<◌, ◌≤◌, true, List, [], ◌∷◌, ◌++◌, length, get_or, refl, sym, ap, subst, ◌∙◌, inl, inr, arith}
+use Rattle.std.proofs.Common.{◌≡◌, ℕ, ◌+◌, ◌/◌, ◌%◌, ◌^◌, ◌<◌, ◌≤◌, Bool, true, false, ◌&&◌, List, [], ◌∷◌, ◌++◌, length, get_or, refl, sym, ap, subst, ◌∙◌, inl, inr, arith}
+use Rattle.std.specs.Prelude.{◌↔◌}
 use Rattle.std.specs.List.{All}
 use Rattle.std.proofs.lemmas.Bool.{cases_lt}
 use Rattle.std.proofs.lemmas.List.{get_or_append_left, get_or-append-add}
 use Rattle.std.proofs.lemmas.List.Elements.{All-from_get_or}
 use Rattle.lb_types.specs.Names.{is_name}
 use Rattle.lb_types.specs.Servers.{has}
+use Rattle.lb_types.proofs.Sets.{same_sets}
 use Rattle.pin_set.specs.declared.pin.Pin.{Pin}
 use Rattle.pin_set.specs.declared.view.ViewServer.{ViewServer}
 use Rattle.pin_set.specs.Views.{IsBelow, IsView, view_of_parts}
-use Rattle.pin_rows.specs.Numbered.{EachNumbered, key_number, IsNumberedServer, AreNumberedServers, IsNumberedPin, AreNumberedPins}
+use Rattle.pin_rows.specs.Numbered.{AreBelow, EachNumbered, key_number, IsNumberedServer, AreNumberedServers, IsNumberedPin, AreNumberedPins}
+
+and_kept : (a b : Bool) → (a ≡ true → b ≡ true) → (a && b) ≡ a
+and_kept true b implies = implies refl
+and_kept false b implies = refl
+
+and_right : (a b : Bool) → (a && b) ≡ true → b ≡ true
+and_right true b both = both
+and_right false b both = cc
+
+-- a set that lies below n is what it has in common with all servers below n
+pub below_meet : (n servers first meet : ℕ) → ((s : ℕ) → has meet s ≡ (has servers s && has first s)) → ((s : ℕ) → (has first s ≡ true) ↔ (s < n)) → AreBelow n servers → meet ≡ servers
+below_meet n servers first meet is_meet is_first below =
+    same_sets meet servers (λ s. is_meet s ∙ and_kept (has servers s) (has first s) (λ held. (is_first s).1 (below s held)))
+
+pub meet_below : (n servers first meet : ℕ) → ((s : ℕ) → has meet s ≡ (has servers s && has first s)) → ((s : ℕ) → (has first s ≡ true) ↔ (s < n)) → meet ≡ servers → AreBelow n servers
+meet_below n servers first meet is_meet is_first same s held =
+    let both : (has servers s && has first s) ≡ true = sym (is_meet s) ∙ (ap (λ m. has m s) same ∙ held) in
+    (is_first s).0 (and_right (has servers s) (has first s) both)
 
 pub length_more : {X : Type 0} (xs : List X) (x : X) → length (xs ++ x ∷ []) ≡ length xs + 1
 length_more [] x = refl

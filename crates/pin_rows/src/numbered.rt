@@ -1,7 +1,7 @@
-ghost use Rattle.std.specs.Prelude.{◌≡◌, ◌+◌, ◌^◌, ◌/◌, ◌%◌, ◌<◌, ◌≤◌, ℕ, true, [], ◌∷◌, length, map, IsTrue, IfOk, IfSome, All};
+ghost use Rattle.std.specs.Prelude.{◌≡◌, ◌^◌, ◌<◌, ◌≤◌, ◌↔◌, ℕ, true, length, map, IsTrue, IsSome, IfOk, IfSome, All};
 ghost use Rattle.lb_types.specs.Names.{is_name};
 ghost use Rattle.lb_types.specs.Servers.{has};
-ghost use Rattle.pin_rows.specs.Numbered.{AreNumberedServers, AreNumberedPins, IsPlain, key_number, plain_of};
+ghost use Rattle.pin_rows.specs.Numbered.{AreBelow, AreNumberedServers, AreNumberedPins, CanBeNumbered, IsPlain, key_number, letters_of, plain_of};
 
 use lb_types::{Name, Place, ServerId, ServerSet};
 use pin_set::{Pin, PinId, PinKey, View, ViewServer};
@@ -20,18 +20,22 @@ pub struct PlainPin {
 /// The view of servers of these capacities and of these pins, whose keys are the addresses of their numbers. The servers
 /// are called `aa` to `ap`, `ba` to `bp` and so on.
 ///
-/// None where a place or a usable server is none of the servers, where a cost isn't 1 to 1000, or where there are more
-/// servers or pins than a view may have.
+/// None exactly where a place or a usable server is none of the servers, where a cost isn't 1 to 1000, or where there are
+/// more servers or pins than a view may have.
 pub fn numbered_view(
     alloc: Global,
     usable: ServerSet,
     capacities: &[u32],
     pins: &[PlainPin],
 ) -> Result<Option<View>, AllocError>
+    ensures some { IfOk result (λ found. IsSome found ↔ CanBeNumbered usable capacities.now pins.now) }
     ensures usable { IfOk result (λ found. IfSome found (λ view. view.usable ≡ usable)) }
     ensures capacities { IfOk result (λ found. IfSome found (λ view.
         map (λ server. server.capacity) view.servers ≡ capacities.now)) }
     ensures pins { IfOk result (λ found. IfSome found (λ view. map plain_of view.pins ≡ pins.now)) }
+    ensures names { IfOk result (λ found. IfSome found (λ view. AreNumberedServers view.servers)) }
+    ensures keys { IfOk result (λ found. IfSome found (λ view.
+        AreNumberedPins (length capacities.now) view.pins)) }
 {
     let n = capacities.len();
     if n > ServerId::LIMIT || pins.len() > 16777216 {
@@ -40,9 +44,7 @@ pub fn numbered_view(
     if !are_below(n, usable) || !pins.iter().all(|pin| is_plain(n, pin)) {
         return Ok(None);
     }
-    let Some(servers) = numbered_servers(alloc, capacities)? else {
-        return Ok(None);
-    };
+    let servers = numbered_servers(alloc, capacities)?;
     let pins = numbered_pins(alloc, n, pins)?;
     let view = View::new(usable, servers, pins);
     Ok(Some(view))
@@ -51,14 +53,14 @@ pub fn numbered_view(
 /// Whether the servers are among the first n.
 fn are_below(n: usize, servers: ServerSet) -> bool
     requires { n ≤ 128 }
-    ensures { IsTrue result → (server : ℕ) → has servers server ≡ true → server < n }
+    ensures { IsTrue result ↔ AreBelow n servers }
 {
     servers.meet(first_servers(n)) == servers
 }
 
 fn first_servers(n: usize) -> ServerSet
     requires { n ≤ 128 }
-    ensures { (server : ℕ) → has result server ≡ true → server < n }
+    ensures { (server : ℕ) → has result server ≡ true ↔ server < n }
 {
     let mut servers = ServerSet::empty();
     for i in 0..n {
@@ -68,7 +70,7 @@ fn first_servers(n: usize) -> ServerSet
 }
 
 fn is_plain(n: usize, pin: &PlainPin) -> bool
-    ensures { IsTrue result → IsPlain n pin.now }
+    ensures { IsTrue result ↔ IsPlain n pin.now }
 {
     let is_among = match pin.place {
         Some(server) => server.index() < n,
@@ -77,41 +79,32 @@ fn is_plain(n: usize, pin: &PlainPin) -> bool
     is_among && pin.cost >= 1 && pin.cost <= 1000
 }
 
-fn numbered_servers(
-    alloc: Global,
-    capacities: &[u32],
-) -> Result<Option<Vec<ViewServer>>, AllocError>
+fn numbered_servers(alloc: Global, capacities: &[u32]) -> Result<Vec<ViewServer>, AllocError>
     requires { length capacities.now ≤ 128 }
-    ensures capacities { IfOk result (λ found. IfSome found (λ servers.
-        map (λ server. server.capacity) servers.items ≡ capacities.now)) }
-    ensures numbered { IfOk result (λ found. IfSome found (λ servers. AreNumberedServers servers.items)) }
+    ensures capacities { IfOk result (λ servers.
+        map (λ server. server.capacity) servers.items ≡ capacities.now) }
+    ensures numbered { IfOk result (λ servers. AreNumberedServers servers.items) }
 {
     let mut servers = Vec::new(alloc);
     for (i, capacity) in capacities.iter().enumerate() {
-        let Some(name) = numbered_name(i) else {
-            return Ok(None);
-        };
-        let server = ViewServer {
-            name,
+        servers.push(ViewServer {
+            name: numbered_name(i),
             capacity: *capacity,
-        };
-        servers.push(server)?;
+        })?;
     }
-    Ok(Some(servers))
+    Ok(servers)
 }
 
 /// Two letters.
-fn numbered_name(i: usize) -> Option<Name>
+fn numbered_name(i: usize) -> Name
     requires { i < 128 }
-    ensures name { IfSome result (λ name. is_name name ≡ true) }
-    ensures letters { IfSome result (λ name. name ≡ (97 + i / 16) ∷ (97 + i % 16) ∷ []) }
+    ensures name { is_name result ≡ true }
+    ensures letters { result ≡ letters_of i }
 {
     let letters = [b'a' + (i / 16) as u8, b'a' + (i % 16) as u8];
-    let name = Name::read(&letters).ok()?;
-    if name.as_bytes() == letters.as_slice() {
-        Some(name)
-    } else {
-        None
+    match Name::read(&letters) {
+        Ok(name) => name,
+        Err(_) => unreachable!(),
     }
 }
 

@@ -1,5 +1,4 @@
-use Rattle.std.proofs.Common.{◌≡◌, sym, ap, subst, ◌∙◌, arith}
-use Rattle.dual_cert_plan.specs.declared.server.Server.{Server}
+use Rattle.std.proofs.Common.{sym, ap, subst, ◌∙◌, arith}
 use Rattle.flow_planner_net.specs.Networks.{IsNetwork}
 use Rattle.flow_planner_accepted.specs.Accepted.{capacities_of, unplaced_cost_of}
 use Rattle.flow_planner_accepted.proofs.Lawful.{network-lawful}

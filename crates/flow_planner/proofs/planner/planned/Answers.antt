@@ -1,4 +1,4 @@
-use Rattle.std.proofs.Common.{◌≡◌, ◌*◌, ◌≤◌, sym, ap, subst, arith}
+use Rattle.std.proofs.Common.{◌*◌, ◌≤◌, ap, subst, arith}
 use Rattle.std.specs.List.{sum_by}
 use Rattle.lb_types_pins.specs.declared.kind.Group.{Group}
 use Rattle.flow_planner_net.specs.Networks.{NetworkParts}

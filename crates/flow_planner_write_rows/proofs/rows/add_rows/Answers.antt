@@ -1,8 +1,8 @@
-use Rattle.std.proofs.Common.{◌≡◌, ◌+◌, ◌*◌, ◌<◌, ◌≤◌, get_or, List, length, sym, ap, ◌∙◌, arith}
+use Rattle.std.proofs.Common.{◌≡◌, ◌+◌, ◌*◌, ◌<◌, get_or, List, length, sym, ap, ◌∙◌, arith}
 use Rattle.std.proofs.lemmas.List.{get_or_default}
 use Rattle.lb_types_pins.specs.declared.kind.Group.{Group}
 use Rattle.lb_types_pins.specs.declared.kind.Row.{Row}
-use Rattle.flow_planner_net.specs.Networks.{size, place_of, no_group, group_at}
+use Rattle.flow_planner_net.specs.Networks.{size, no_group}
 use Rattle.flow_planner_net.specs.States.{used_of}
 use Rattle.flow_planner_net.proofs.Tables.{used_of-is}
 use Rattle.flow_planner_write_rows.proofs.RowSteps.{group_rows-none, row_more, row_past}

@@ -1,4 +1,4 @@
-use Rattle.std.proofs.Common.{◌≡◌, ◌++◌, List, sym, ap, ◌∙◌, arith}
+use Rattle.std.proofs.Common.{◌++◌, List, sym, ap, ◌∙◌}
 use Rattle.lb_types_pins.specs.declared.kind.Row.{Row}
 use Rattle.flow_planner_net.specs.Networks.{options, size}
 use Rattle.flow_planner_net.specs.States.{used_of}
