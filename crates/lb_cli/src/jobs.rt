@@ -1,4 +1,4 @@
-use crate::{JobError, verify};
+use crate::{JobError, check, verify};
 use lb_cli_words::Job;
 use std::alloc::Global;
 use std::io::Write;
@@ -14,16 +14,18 @@ pub fn perform<R: Files, O: Write, E: Write>(
     out: &mut O,
     err: &mut E,
 ) -> u8 {
-    match job {
-        Job::Verify { file } => match verify_file(alloc, rt, file, out) {
-            Ok(true) => 0,
-            Ok(false) => 1,
-            Err(error) => {
-                // A message that can't be written leaves only the status.
-                let _ = tell(err, error, file);
-                1
-            }
-        },
+    let (file, done) = match job {
+        Job::Verify { file } => (file, verify_file(alloc, rt, file, out)),
+        Job::Check { file } => (file, check_file(alloc, rt, file, out)),
+    };
+    match done {
+        Ok(true) => 0,
+        Ok(false) => 1,
+        Err(error) => {
+            // A message that can't be written leaves only the status.
+            let _ = tell(err, error, file);
+            1
+        }
     }
 }
 
@@ -34,8 +36,25 @@ fn verify_file<R: Files, O: Write>(
     path: &str,
     out: &mut O,
 ) -> Result<bool, JobError> {
+    let mut file = opened(rt, path)?;
+    Ok(verify(alloc, &mut file, out)?.is_best())
+}
+
+/// Whether the file's configuration is valid.
+fn check_file<R: Files, O: Write>(
+    alloc: Global,
+    rt: &R,
+    path: &str,
+    out: &mut O,
+) -> Result<bool, JobError> {
+    let mut file = opened(rt, path)?;
+    check(alloc, &mut file, out)
+}
+
+/// The file, to be read.
+fn opened<R: Files>(rt: &R, path: &str) -> Result<R::File, JobError> {
     match fs::open(rt, path) {
-        Ok(mut file) => Ok(verify(alloc, &mut file, out)?.is_best()),
+        Ok(file) => Ok(file),
         Err(_) => Err(JobError::CannotRead),
     }
 }

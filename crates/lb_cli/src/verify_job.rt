@@ -2,9 +2,10 @@ ghost use Rattle.std.specs.Prelude.{◌≡◌, OnOk, IfOk, IfSome};
 ghost use Rattle.std.specs.Io.KnownBytes.{Appends};
 ghost use Rattle.lb_cli.specs.Verify.{finding_of, line_of};
 
+use crate::input::whole;
 use crate::{Finding, JobError};
 use std::alloc::Global;
-use std::io::{ErrorKind, Read, Write};
+use std::io::{Read, Write};
 
 /// Reads the text of a plan to its end, and writes one line: `best pins N unplaced U moved M` where the plan is lawful
 /// and its prices show that no plan is better (with ` cost C` at the end where C isn't M), and else the first fault.
@@ -26,17 +27,5 @@ pub fn verify<R: Read, W: Write>(
     match out.write_all(line.as_bytes()) {
         Ok(()) => Ok(finding),
         Err(_) => Err(JobError::CannotWrite),
-    }
-}
-
-/// All bytes that are left to read.
-fn whole<R: Read>(alloc: Global, file: &mut R) -> Result<Vec<u8>, JobError>
-    ensures { IfOk result (λ text. IfSome (R.remaining file.old) (λ all. text.items ≡ all)) }
-{
-    let mut text = Vec::new(alloc);
-    match file.read_to_end(&mut text) {
-        Ok(_) => Ok(text),
-        Err(error) if error.kind() == ErrorKind::OutOfMemory => Err(JobError::OutOfMemory),
-        Err(_) => Err(JobError::CannotRead),
     }
 }

@@ -1,5 +1,5 @@
 -- All the words of a command line.
-use Rattle.std.proofs.Common.{◌≡◌, ◌∙◌, ◌⊎◌, ◌||◌, ℕ, Bool, cond, true, false, refl, sym, ap, ap₂, subst, List, [], ◌∷◌, codes, Option, Some, None, is_some, true≢false}
+use Rattle.std.proofs.Common.{◌≡◌, ◌∙◌, ◌⊎◌, ◌||◌, Bool, cond, true, false, refl, sym, ap, ap₂, subst, List, [], ◌∷◌, codes, Option, Some, None, is_some, true≢false}
 use Rattle.std.specs.Prelude.{IsSome, fold, option_map, option_and_then}
 use Rattle.std.specs.List.{list_any}
 use Rattle.std.specs.Str.{bytes_eq, chars}
@@ -18,11 +18,13 @@ use Rattle.lb_cli_words.proofs.Judgement.{taken_value, memory_at, told_help, ask
 use Rattle.clap.proofs.OnLiterals.{clap_on_literals}
 use Rattle.clap.proofs.WalkLemmas.{walk_stopped}
 use Rattle.clap.proofs.FaultLemmas.{stopped_fault}
-use Rattle.lb_cli_words.specs.Words.{first_letter, is_option, is_help, ends_options, operands, asks_help_within}
-use Rattle.lb_cli_words.specs.Table.{Row, row_in, asks_help, exactly}
+use Rattle.lb_cli_words.specs.Words.{is_option, is_help, ends_options}
+use Rattle.lb_cli_words.specs.Table.{Row, files_of, asks_help_of, row_in, asks_help}
 use Rattle.lb_cli_words.specs.Clap.{commands_app, row_named}
-use Rattle.lb_cli_words.proofs.Word.{is_display_help, Result, taken, helped, wrong, mixed, result_of, wish, told, bytes_eq_sym, found_long, found_short, HasHelpOnly, Tells, between, held_at, turn_option, turn_operand}
-use Rattle.lb_cli_words.proofs.OneFile.{file_found, file_shape, file_result}
+use Rattle.lb_cli_words.proofs.Word.{is_display_help, Result, taken, helped, wrong, mixed, result_of, wish, told, bytes_eq_sym, found_long, found_short, HasHelpOnly, none_own, Tells, between, held_at, operand_no_help, turn_option, turn_operand}
+use Rattle.lb_cli_words.proofs.Leaf.{file_found}
+use Rattle.lb_cli_words.proofs.OneFile.{file_shape, file_result}
+use Rattle.lb_cli_words.proofs.FileOption.{check_shape, option_result}
 
 -- the program as it is built, and its commands
 abbrev top_shape : Shape
@@ -31,8 +33,8 @@ top_shape = (built commands_app).top
 abbrev names : Names
 names = names_of (built commands_app)
 
-help_only : HasHelpOnly top_shape
-help_only = record { long = found_long; short = found_short }
+help_only : HasHelpOnly top_shape none_own
+help_only = record { long = found_long; short = λ c foreign. found_short c }
 
 abbrev pub result_on : List Text → Result (Option Row)
 result_on words = result_of (fault_of commands_app words) (option_and_then row_named (subcommand_of commands_app words))
@@ -57,22 +59,26 @@ end_of words = fold (walked top_shape.rules names) before words
 whole : (program : Text) (words : List Text) → fault_of commands_app (program ∷ words) ≡ fault_at (walk_fault top_shape names before words) (end_of words)
 whole program words = refl
 
--- ---- a command that takes one file
+-- ---- a command of the table
 
 abbrev entered_at : Text → List Text → Walk
 entered_at command others = record before { stopped = Some (command, others) }
 
--- the command is in the program's table, and `clap` knows it
-record IsFileCommand (command : Text) : Type 0 where
+abbrev level : Shape → List Text → Kinds
+level shape others = level_fault shape [] nothing_held others false []
+
+-- the command is in the program's table, and `clap` knows it by this shape
+record IsCommand (command : Text) (shape : Shape) : Type 0 where
   begins : walked top_shape.rules names before command ≡ entered_at command []
   passes : turn_fault top_shape names before command ≡ []
-  enters : (others : List Text) → fault_at [] (entered_at command others) ≡ or_else (level_fault (file_shape command) [] nothing_held others false []) []
-  found : (others : List Text) → entered (built commands_app) (Some (command, others)) ≡ Some (command, rows_after (file_shape command).rules [] others)
+  enters : (others : List Text) → fault_at [] (entered_at command others) ≡ or_else (level shape others) []
+  found : (others : List Text) → entered (built commands_app) (Some (command, others)) ≡ Some (command, rows_after shape.rules [] others)
   named : (rows : List Matched) → row_named (command, rows) ≡ option_map (λ file. (command, file ∷ [])) (first_of (codes "file") rows)
-  row : (program : Text) (others : List Text) → row_in (program ∷ command ∷ others) ≡ option_map (λ files. (command, files)) (option_and_then (exactly 1) (operands others))
-  help : (program : Text) (others : List Text) → asks_help (program ∷ command ∷ others) ≡ asks_help_within 1 others
+  help : (program : Text) (others : List Text) → asks_help (program ∷ command ∷ others) ≡ asks_help_of command others
+  agrees_behind : (others : List Text) → result_of (level shape others) (file_found shape others)
+      ≡ wish (option_map (λ files. Some files) (files_of command others)) (asks_help_of command others)
 
-module _ (command : Text) (is : IsFileCommand command) where
+module _ (command : Text) (shape : Shape) (is : IsCommand command shape) where
   command_end : (others : List Text) → end_of (command ∷ others) ≡ entered_at command others
   command_end others = ap (λ w. fold (walked top_shape.rules names) w others) is.begins
       ∙ sym (walk_stopped top_shape.rules names before command [] others)
@@ -83,7 +89,7 @@ module _ (command : Text) (is : IsFileCommand command) where
       ∙ stopped_fault top_shape names before (command, []) others
 
   command_fault : (program : Text) (others : List Text)
-      → fault_of commands_app (program ∷ command ∷ others) ≡ or_else (level_fault (file_shape command) [] nothing_held others false []) []
+      → fault_of commands_app (program ∷ command ∷ others) ≡ or_else (level shape others) []
   command_fault program others = ap₂ fault_at (command_passes others) (command_end others) ∙ is.enters others
 
   -- the files as a row
@@ -95,10 +101,10 @@ module _ (command : Text) (is : IsFileCommand command) where
   one_row (Some f) = refl
 
   command_found : (program : Text) (others : List Text)
-      → option_and_then row_named (subcommand_of commands_app (program ∷ command ∷ others)) ≡ as_row (file_found command others)
+      → option_and_then row_named (subcommand_of commands_app (program ∷ command ∷ others)) ≡ as_row (file_found shape others)
   command_found program others = ap (λ (end : Walk). option_and_then row_named (entered (built commands_app) end.stopped)) (command_end others)
-      ∙ ap (option_and_then row_named) (is.found others) ∙ is.named (rows_after (file_shape command).rules [] others)
-      ∙ one_row (first_of (codes "file") (rows_after (file_shape command).rules [] others))
+      ∙ ap (option_and_then row_named) (is.found others) ∙ is.named (rows_after shape.rules [] others)
+      ∙ one_row (first_of (codes "file") (rows_after shape.rules [] others))
 
   abbrev lifted : Result (Option (List Text)) → Result (Option Row)
   lifted (taken files) = taken (as_row files)
@@ -127,11 +133,11 @@ module _ (command : Text) (is : IsFileCommand command) where
 
   command_agrees : (program : Text) (others : List Text) → result_on (program ∷ command ∷ others) ≡ wished_on (program ∷ command ∷ others)
   command_agrees program others = ap₂ result_of (command_fault program others) (command_found program others)
-      ∙ lifted_result (level_fault (file_shape command) [] nothing_held others false []) (file_found command others)
-      ∙ ap lifted (file_result command others) ∙ lifted_wish (option_and_then (exactly 1) (operands others)) (asks_help_within 1 others)
-      ∙ sym (ap₂ (λ row asks. wish (option_map (λ r. Some r) row) asks) (is.row program others) (is.help program others))
+      ∙ lifted_result (level shape others) (file_found shape others)
+      ∙ ap lifted (is.agrees_behind others) ∙ lifted_wish (files_of command others) (asks_help_of command others)
+      ∙ sym (ap (wish (option_map (λ r. Some r) (as_row (files_of command others)))) (is.help program others))
 
-verify_is : IsFileCommand (codes "verify")
+verify_is : IsCommand (codes "verify") (file_shape (codes "verify"))
 unfolding clap_on_literals
 verify_is = record {
   begins = refl;
@@ -139,37 +145,42 @@ verify_is = record {
   enters = λ others. refl;
   found = λ others. refl;
   named = λ rows. refl;
-  row = λ program others. refl;
   help = λ program others. refl;
+  agrees_behind = file_result (codes "verify");
+}
+
+check_is : IsCommand (codes "check") check_shape
+unfolding clap_on_literals
+check_is = record {
+  begins = refl;
+  passes = refl;
+  enters = λ others. refl;
+  found = λ others. refl;
+  named = λ rows. refl;
+  help = λ program others. refl;
+  agrees_behind = option_result;
 }
 
 -- ---- any other word
 
-no_row : (program command : Text) (others : List Text) → bytes_eq (codes "verify") command ≡ false → wished_on (program ∷ command ∷ others) ≡ wish None (is_help command)
-no_row program command others differs =
-    let none : bytes_eq command (codes "verify") ≡ false = bytes_eq_sym command (codes "verify") ∙ differs in
-    rw (none, or-false) refl
+-- the word is no command of the table
+abbrev IsOther : Text → Type 0
+IsOther command =
+    (bytes_eq (codes "verify") command ≡ false) × (bytes_eq (codes "check") command ≡ false)
 
-unmet : (command : Text) → bytes_eq (codes "verify") command ≡ false → subcommand_met names idle command ≡ None
-unmet command differs = rw differs refl
+no_row : (program command : Text) (others : List Text) → IsOther command → wished_on (program ∷ command ∷ others) ≡ wish None (is_help command)
+no_row program command others differs =
+    let no_verify : bytes_eq command (codes "verify") ≡ false = bytes_eq_sym command (codes "verify") ∙ differs.0 in
+    let no_check : bytes_eq command (codes "check") ≡ false = bytes_eq_sym command (codes "check") ∙ differs.1 in
+    rw (no_verify, no_check, or-false) refl
+
+unmet : (command : Text) → IsOther command → subcommand_met names idle command ≡ None
+unmet command differs = rw (differs.0, differs.1) refl
 
 dashes_agree : (program : Text) (others : List Text) → result_on (program ∷ codes "--" ∷ others) ≡ wrong
 unfolding clap_on_literals
 dashes_agree program [] = refl
 dashes_agree program (x ∷ xs) = refl
-
-help_is_option : is_option (codes "--help") ≡ true
-unfolding chars
-help_is_option = refl
-
-operand_no_help : (word : Text) → is_option word ≡ false → is_help word ≡ false
-operand_no_help word is = go (first_letter word) refl is (bytes_eq word (codes "--help")) refl
-  where
-    go : (letter : Option ℕ) → first_letter word ≡ letter → is_some letter ≡ false → (b : Bool) → bytes_eq word (codes "--help") ≡ b → is_help word ≡ false
-    go None l _ true b = let no : is_option word ≡ true = subst (λ w. is_option w ≡ true) (sym ((bytes_eq-Decides word (codes "--help")).0 b)) help_is_option in
-        absurd (true≢false (sym no ∙ is))
-    go None l _ false b = rw (b, l) refl
-    go (Some c) l is_none _ b = absurd (true≢false is_none)
 
 fails_first : (program command : Text) (others : List Text) (asks : Bool) → Tells (turn_fault top_shape names before command) asks
     → Tells (fault_of commands_app (program ∷ command ∷ others)) asks
@@ -183,13 +194,13 @@ strays program command others is = ap (λ kinds. result_of
     (fault_at (or_else kinds (walk_fault top_shape names (walked top_shape.rules names before command) others)) (end_of (command ∷ others)))
     (option_and_then row_named (subcommand_of commands_app (program ∷ command ∷ others)))) is
 
-other_agrees : (program command : Text) (others : List Text) → bytes_eq (codes "verify") command ≡ false → (e : Bool) → ends_options command ≡ e
+other_agrees : (program command : Text) (others : List Text) → IsOther command → (e : Bool) → ends_options command ≡ e
     → (o : Bool) → is_option command ≡ o → result_on (program ∷ command ∷ others) ≡ wish None (is_help command)
 unfolding chars
 other_agrees program command others differs true e o t = subst (λ c. result_on (program ∷ c ∷ others) ≡ wish None (is_help c))
     (sym ((bytes_eq-Decides command (codes "--")).0 e)) (dashes_agree program others)
 other_agrees program command others differs false e true t = told _ _ _ (fails_first program command others (is_help command)
-    (turn_option top_shape names [] None 1 command (unmet command differs) e help_only refl t))
+    (turn_option top_shape names [] None 1 command (unmet command differs) e none_own help_only refl t (λ c letter. refl)))
 other_agrees program command others differs false e false t =
     strays program command others (turn_operand top_shape names [] None 1 command (unmet command differs) e t)
     ∙ sym (ap (wish None) (operand_no_help command t))
@@ -198,12 +209,20 @@ pub agrees : (words : List Text) → result_on words ≡ wished_on words
 unfolding clap_on_literals
 agrees [] = refl
 agrees (program ∷ []) = refl
-agrees (program ∷ command ∷ others) = go (bytes_eq (codes "verify") command) refl
+agrees (program ∷ command ∷ others) =
+    go (bytes_eq (codes "verify") command) refl (bytes_eq (codes "check") command) refl
   where
-    go : (b : Bool) → bytes_eq (codes "verify") command ≡ b → result_on (program ∷ command ∷ others) ≡ wished_on (program ∷ command ∷ others)
-    go true same = subst (λ c. result_on (program ∷ c ∷ others) ≡ wished_on (program ∷ c ∷ others)) ((bytes_eq-Decides (codes "verify") command).0 same)
-        (command_agrees (codes "verify") verify_is program others)
-    go false differs = other_agrees program command others differs (ends_options command) refl (is_option command) refl ∙ sym (no_row program command others differs)
+    -- what holds of the command that the word is
+    known : (name : Text) → bytes_eq name command ≡ true → result_on (program ∷ name ∷ others) ≡ wished_on (program ∷ name ∷ others)
+        → result_on (program ∷ command ∷ others) ≡ wished_on (program ∷ command ∷ others)
+    known name same is = subst (λ c. result_on (program ∷ c ∷ others) ≡ wished_on (program ∷ c ∷ others)) ((bytes_eq-Decides name command).0 same) is
+
+    go : (v : Bool) → bytes_eq (codes "verify") command ≡ v → (c : Bool) → bytes_eq (codes "check") command ≡ c → result_on (program ∷ command ∷ others) ≡ wished_on (program ∷ command ∷ others)
+    go true same c u = known (codes "verify") same (command_agrees (codes "verify") _ verify_is program others)
+    go false no_verify true same = known (codes "check") same (command_agrees (codes "check") _ check_is program others)
+    go false no_verify false no_check =
+        other_agrees program command others (no_verify, no_check) (ends_options command) refl (is_option command) refl
+        ∙ sym (no_row program command others (no_verify, no_check))
 
 -- ---- what follows for the answer
 

@@ -3,4 +3,6 @@
 pub enum Job<'a> {
     /// `verify <file>`: check the plan in the file against its own sheet.
     Verify { file: &'a str },
+    /// `check -f <file>`: check the configuration in the file.
+    Check { file: &'a str },
 }

@@ -5,6 +5,7 @@
 //! The table is `specs/Table.antt`, and how words are read is `specs/Words.antt`. Start at `read_words`.
 #![tactic(auto)]
 
+mod check;
 mod error;
 mod job;
 mod verify;

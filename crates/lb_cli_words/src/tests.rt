@@ -24,8 +24,28 @@ fn verify_takes_one_file(rt: HostRuntime) -> Result<(), Fail> {
 }
 
 #[test]
+fn check_takes_a_file_by_its_option(rt: HostRuntime) -> Result<(), Fail> {
+    let cases: [(&[&str], &str); 6] = [
+        (&["stickylb", "check", "-f", "web.cfg"], "web.cfg"),
+        (&["stickylb", "check", "-fweb.cfg"], "web.cfg"),
+        (&["stickylb", "check", "-f=web.cfg"], "web.cfg"),
+        (&["stickylb", "check", "-fh"], "h"),
+        (&["stickylb", "check", "-f", "-"], "-"),
+        (&["stickylb", "check", "-f", "web.cfg", "--"], "web.cfg"),
+    ];
+    for (words, file) in cases {
+        assert_eq!(rt;
+            read_words(rt.alloc(), words)?,
+            Job::Check { file },
+            "at {words:?}"
+        );
+    }
+    Ok(())
+}
+
+#[test]
 fn other_words_are_refused(rt: HostRuntime) -> Result<(), Fail> {
-    let cases: [(&[&str], ErrorKind); 9] = [
+    let cases: [(&[&str], ErrorKind); 16] = [
         (
             &["stickylb"],
             ErrorKind::DisplayHelpOnMissingArgumentOrSubcommand,
@@ -49,6 +69,22 @@ fn other_words_are_refused(rt: HostRuntime) -> Result<(), Fail> {
             &["stickylb", "verify", "-f", "a"],
             ErrorKind::UnknownArgument,
         ),
+        (&["stickylb", "checks", "a"], ErrorKind::InvalidSubcommand),
+        (&["stickylb", "check"], ErrorKind::MissingRequiredArgument),
+        (
+            &["stickylb", "check", "web.cfg"],
+            ErrorKind::UnknownArgument,
+        ),
+        (&["stickylb", "check", "-f"], ErrorKind::InvalidValue),
+        (
+            &["stickylb", "check", "-f", "--", "web.cfg"],
+            ErrorKind::UnknownArgument,
+        ),
+        (
+            &["stickylb", "check", "-f", "a", "-f", "b"],
+            ErrorKind::ArgumentConflict,
+        ),
+        (&["stickylb", "check", "-f", "-h"], ErrorKind::InvalidValue),
         (
             &["stickylb", "verify", "--help=a"],
             ErrorKind::TooManyValues,
@@ -65,12 +101,14 @@ fn other_words_are_refused(rt: HostRuntime) -> Result<(), Fail> {
 
 #[test]
 fn help_ends_well(rt: HostRuntime) -> Result<(), Fail> {
-    let cases: [&[&str]; 5] = [
+    let cases: [&[&str]; 7] = [
         &["stickylb", "--help"],
         &["stickylb", "-h"],
         &["stickylb", "verify", "--help"],
         &["stickylb", "verify", "-h"],
         &["stickylb", "verify", "a", "--help"],
+        &["stickylb", "check", "-h"],
+        &["stickylb", "check", "-fa", "--help"],
     ];
     for words in cases {
         let error = read_words(rt.alloc(), words).err().ok_or("an error")?;
@@ -82,10 +120,14 @@ fn help_ends_well(rt: HostRuntime) -> Result<(), Fail> {
 
 #[test]
 fn help_names_the_commands_and_their_files(rt: HostRuntime) -> Result<(), Fail> {
-    let cases: [(&[&str], &str); 3] = [
+    let cases: [(&[&str], &str); 4] = [
         (
             &["stickylb", "--help"],
             "Usage: stickylb <COMMAND>\n\nCommands:\n  verify  Check that a plan",
+        ),
+        (
+            &["stickylb", "check", "--help"],
+            "Usage: stickylb check -f <FILE>\n",
         ),
         (
             &["stickylb", "verify", "--help"],

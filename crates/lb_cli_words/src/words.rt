@@ -4,7 +4,7 @@ ghost use Rattle.lb_cli_words.specs.Words.{texts};
 ghost use Rattle.lb_cli_words.specs.Table.{row_in, row_of, asks_help};
 ghost use Rattle.lb_cli_words.specs.Clap.{commands_app, row_named};
 
-use crate::{Error, ErrorKind, Job, verify};
+use crate::{Error, ErrorKind, Job, check, verify};
 use clap::{ArgMatches, Command};
 use std::alloc::{AllocError, Global};
 
@@ -35,6 +35,7 @@ fn job<'a>(matches: &ArgMatches<'a>) -> Option<Job<'a>>
     let (command, given) = matches.subcommand()?;
     match command {
         "verify" => verify::job(given),
+        "check" => check::job(given),
         _ => None,
     }
 }
@@ -48,5 +49,6 @@ fn commands<'a>(alloc: Global) -> Result<Command<'a>, AllocError>
         .arg_required_else_help(true)
         .subcommand_required(true)
         .disable_help_subcommand(true)
-        .subcommand(verify::command(alloc)?)
+        .subcommand(verify::command(alloc)?)?
+        .subcommand(check::command(alloc)?)
 }

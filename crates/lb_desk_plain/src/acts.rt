@@ -1,7 +1,8 @@
-ghost use Rattle.std.specs.Prelude.{◌≡◌, ◌≢◌, ◌↔◌, ◌^◌, ◌≤◌, AllPairs, IfOk, IsTrue};
+ghost use Rattle.std.specs.Prelude.{◌≡◌, ◌≢◌, ◌↔◌, ◌^◌, ◌≤◌, AllPairs, IfOk, IsErrOf, IsTrue};
 ghost use Rattle.pin_set.specs.Views.{IsView};
 ghost use Rattle.lb_desk_model.specs.States.{SameView, view_of};
 ghost use Rattle.lb_desk_model.specs.Steps.{Does};
+ghost use Rattle.lb_desk_plain.specs.Runs.{CountsNoMore};
 
 use crate::StepFault;
 use lb_desk_model::{Event, Reply};
@@ -17,7 +18,8 @@ pub(crate) fn act(
 ) -> Result<Reply, StepFault>
     requires view { IsView (view_of state.old) }
     requires version { state.old.version ≤ 2 ^ 63 }
-    ensures { IfOk result (λ reply. Does state.old event.now reply state.new) }
+    ensures does { IfOk result (λ reply. Does state.old event.now reply state.new) }
+    ensures worn { IsErrOf result StepFault.Worn → CountsNoMore state.old event.now }
 {
     match event {
         Event::Serve(request) => Ok(state.serve(alloc, request)?),

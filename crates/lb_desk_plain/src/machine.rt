@@ -1,7 +1,7 @@
-ghost use Rattle.std.specs.Prelude.{◌≡◌, IfOk, OnErr};
+ghost use Rattle.std.specs.Prelude.{◌≡◌, IfOk, OnErr, IsErrOf};
 ghost use Rattle.lb_desk_model.specs.States.{opening};
 ghost use Rattle.lb_desk_model.specs.Steps.{Step};
-ghost use Rattle.lb_desk_plain.specs.Runs.{Answers, AnswersSome};
+ghost use Rattle.lb_desk_plain.specs.Runs.{Answers, AnswersSome, IsWorn};
 
 use crate::StepFault;
 use crate::acts::{act, have_same_view};
@@ -54,6 +54,7 @@ impl Machine {
     pub fn step(&mut self, alloc: Global, event: &Event) -> Result<Reply, StepFault>
         ensures step { IfOk result (λ reply. Step self.old event.now reply self.new) }
         ensures err { OnErr result (self.new ≡ self.old) }
+        ensures worn { IsErrOf result StepFault.Worn → IsWorn self.old event.now }
     {
         if self.state.version() >= 1 << 63 {
             return Err(StepFault::Worn);

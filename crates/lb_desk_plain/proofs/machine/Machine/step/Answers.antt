@@ -22,7 +22,7 @@ have_same_view-requires c =
 
 pub count_step-requires : goal.count_step-requires
 count_step-requires c =
-    let kept = does-version c.in_ok-acted.acted c.args.event.now c.in_ok-reply.reply c.act.new.state c.in_ok-reply.ensures in
+    let kept = does-version c.in_ok-acted.acted c.args.event.now c.in_ok-reply.reply c.act.new.state c.in_ok-reply.ensures.does in
     let same = ap (λ (s : State). s.version) c.in_ok-acted.ensures in
     omega (arith, kept, same, c.version.ensures, c.if-version.false)
 
@@ -32,7 +32,7 @@ invariant_of-self c =
     let acted = c.act.new.state in
     let new = c.if-not-have_same_view.acted in
     let does : Does old c.args.event.now c.in_ok-reply.reply acted =
-    subst (λ (s : State). Does s c.args.event.now c.in_ok-reply.reply acted) c.in_ok-acted.ensures c.in_ok-reply.ensures in
+    subst (λ (s : State). Does s c.args.event.now c.in_ok-reply.reply acted) c.in_ok-acted.ensures c.in_ok-reply.ensures.does in
     let made : Step old c.args.event.now c.in_ok-reply.reply new =
     step-made old c.args.event.now c.in_ok-reply.reply acted new c.have_same_view.result does c.have_same_view.ensures
     (elim c.if-not-have_same_view.branch [
@@ -47,7 +47,7 @@ returns-clause-step c =
     let acted = c.act.new.state in
     let new = c.if-not-have_same_view.acted in
     let does : Does old c.args.event.now c.in_ok-reply.reply acted =
-    subst (λ (s : State). Does s c.args.event.now c.in_ok-reply.reply acted) c.in_ok-acted.ensures c.in_ok-reply.ensures in
+    subst (λ (s : State). Does s c.args.event.now c.in_ok-reply.reply acted) c.in_ok-acted.ensures c.in_ok-reply.ensures.does in
     let made : Step old c.args.event.now c.in_ok-reply.reply new =
     step-made old c.args.event.now c.in_ok-reply.reply acted new c.have_same_view.result does c.have_same_view.ensures
     (elim c.if-not-have_same_view.branch [

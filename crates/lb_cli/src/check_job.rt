@@ -1,0 +1,138 @@
+ghost use Rattle.std.specs.Prelude.{◌≡◌, ◌++◌, codes, OnOk, IfOk, IfSome};
+ghost use Rattle.std.specs.List.{flat_map};
+ghost use Rattle.std.specs.Io.KnownBytes.{Appends};
+ghost use Rattle.lb_config_references.specs.References.{checked_in};
+ghost use Rattle.lb_cli.specs.Checking.{line_label, cause_name, cause_text, fault_line, warning_line, report_of, is_valid};
+
+use crate::JobError;
+use crate::input::whole;
+use lb_config_references::read_checked;
+use lb_config_sections::{Cause, ConfigFault, LocatedFault, Sections, Warning};
+use std::alloc::{AllocError, Global};
+use std::io::{Read, Write};
+
+/// Reads the text of a configuration to its end, and writes a line `line N: WORDS ignored` for each thing in it that is
+/// ignored and then `configuration is valid`; or the first fault, as `line 2: 22 UnknownWord`. Tells whether it is valid.
+///
+/// The text is read whole: one that is larger than memory is want of memory.
+pub fn check<R: Read, W: Write>(alloc: Global, file: &mut R, out: &mut W) -> Result<bool, JobError>
+    ensures valid { IfOk result (λ valid. IfSome (R.remaining file.old) (λ text. valid ≡ is_valid (checked_in text))) }
+    ensures written { OnOk result (IfSome (R.remaining file.old) (λ text.
+        Appends (W.contents out.old) (W.contents out.new) (report_of (checked_in text)))) }
+{
+    let text = whole(alloc, file)?;
+    let report = Report::of(alloc, &text)?;
+    match out.write_all(&report.text) {
+        Ok(()) => Ok(report.is_valid),
+        Err(_) => Err(JobError::CannotWrite),
+    }
+}
+
+/// What is printed of a text, and whether it is a valid configuration.
+#[derive(Drop)]
+struct Report {
+    is_valid: bool,
+    text: Vec<u8>,
+}
+
+impl Report {
+    fn of(alloc: Global, text: &[u8]) -> Result<Report, AllocError>
+        ensures valid { IfOk result (λ report. report.is_valid ≡ is_valid (checked_in text.now)) }
+        ensures text { IfOk result (λ report. report.text.items ≡ report_of (checked_in text.now)) }
+    {
+        match read_checked(alloc, text) {
+            Ok(sections) => Ok(Report {
+                is_valid: true,
+                text: valid_report(alloc, &sections)?,
+            }),
+            Err(ConfigFault::Fault(fault)) => Ok(Report {
+                is_valid: false,
+                text: fault_line(alloc, &fault)?,
+            }),
+            Err(ConfigFault::Memory) => Err(AllocError),
+        }
+    }
+}
+
+/// The warnings, and that the configuration is valid.
+fn valid_report(alloc: Global, sections: &Sections) -> Result<Vec<u8>, AllocError>
+    ensures { IfOk result (λ report. report.items
+        ≡ flat_map warning_line sections.now.warnings ++ codes "configuration is valid\n") }
+{
+    let mut report = Vec::new(alloc);
+    push_warnings(alloc, &mut report, sections.warnings())?;
+    report.extend_from_slice(b"configuration is valid\n")?;
+    Ok(report)
+}
+
+/// Puts a line for each warning behind the report.
+fn push_warnings(
+    alloc: Global,
+    report: &mut Vec<u8>,
+    warnings: &[Warning],
+) -> Result<(), AllocError>
+    ensures { OnOk result (report.new.items ≡ report.old.items ++ flat_map warning_line warnings.now) }
+{
+    for warning in warnings {
+        push_warning(alloc, report, warning)?;
+    }
+    Ok(())
+}
+
+fn push_warning(alloc: Global, report: &mut Vec<u8>, warning: &Warning) -> Result<(), AllocError>
+    ensures { OnOk result (report.new.items ≡ report.old.items ++ warning_line warning.now) }
+{
+    push_label(alloc, report, warning.line)?;
+    report.extend_from_slice(warning.words.as_bytes())?;
+    report.extend_from_slice(b" ignored\n")?;
+    Ok(())
+}
+
+fn fault_line(alloc: Global, fault: &LocatedFault) -> Result<Vec<u8>, AllocError>
+    ensures { IfOk result (λ line. line.items ≡ fault_line fault.now) }
+{
+    let mut line = Vec::new(alloc);
+    push_label(alloc, &mut line, fault.line)?;
+    push_cause(&mut line, &fault.cause)?;
+    line.extend_from_slice(b"\n")?;
+    Ok(line)
+}
+
+/// Puts `line N: ` behind the text.
+fn push_label(alloc: Global, text: &mut Vec<u8>, line: u32) -> Result<(), AllocError>
+    ensures { OnOk result (text.new.items ≡ text.old.items ++ line_label line) }
+{
+    text.extend_from_slice(b"line ")?;
+    text.extend_from_slice(line.to_string(alloc)?.as_bytes())?;
+    text.extend_from_slice(b": ")?;
+    Ok(())
+}
+
+/// Puts the fault's number and name behind the text, and the word that is left out.
+fn push_cause(text: &mut Vec<u8>, cause: &Cause) -> Result<(), AllocError>
+    ensures { OnOk result (text.new.items ≡ text.old.items ++ cause_text cause.now) }
+{
+    text.extend_from_slice(cause_name(cause))?;
+    if let Cause::LeftOut(word) = cause {
+        text.extend_from_slice(word.as_bytes())?;
+    }
+    Ok(())
+}
+
+/// The fault's number and name, with a space where its word follows.
+fn cause_name(cause: &Cause) -> &'static [u8]
+    ensures { result.now ≡ cause_name cause.now }
+{
+    match cause {
+        Cause::NotUtf8 => b"20 NotUtf8",
+        Cause::UnknownSection => b"21 UnknownSection",
+        Cause::UnknownWord => b"22 UnknownWord",
+        Cause::Missing => b"23 Missing",
+        Cause::BadNumber => b"24 BadNumber",
+        Cause::BadName => b"25 BadName",
+        Cause::Duplicate => b"26 Duplicate",
+        Cause::NoSuchName => b"27 NoSuchName",
+        Cause::TooMany => b"28 TooMany",
+        Cause::LeftOut(_) => b"29 LeftOut ",
+    }
+}

@@ -1,0 +1,17 @@
+ghost use Rattle.std.specs.Prelude.{◌≡◌, IfOk, IfSome};
+
+use crate::JobError;
+use std::alloc::Global;
+use std::io::{ErrorKind, Read};
+
+/// All bytes that are left to read.
+pub(crate) fn whole<R: Read>(alloc: Global, file: &mut R) -> Result<Vec<u8>, JobError>
+    ensures { IfOk result (λ text. IfSome (R.remaining file.old) (λ all. text.items ≡ all)) }
+{
+    let mut text = Vec::new(alloc);
+    match file.read_to_end(&mut text) {
+        Ok(_) => Ok(text),
+        Err(error) if error.kind() == ErrorKind::OutOfMemory => Err(JobError::OutOfMemory),
+        Err(_) => Err(JobError::CannotRead),
+    }
+}
