@@ -1,4 +1,4 @@
-use crate::{JobError, check, verify};
+use crate::{JobError, check, plan, verify};
 use lb_cli_words::Job;
 use std::alloc::Global;
 use std::io::Write;
@@ -16,6 +16,7 @@ pub fn perform<R: Files, O: Write, E: Write>(
 ) -> u8 {
     let (file, done) = match job {
         Job::Verify { file } => (file, verify_file(alloc, rt, file, out)),
+        Job::Plan { file } => (file, plan_file(alloc, rt, file, out)),
         Job::Check { file } => (file, check_file(alloc, rt, file, out)),
     };
     match done {
@@ -38,6 +39,17 @@ fn verify_file<R: Files, O: Write>(
 ) -> Result<bool, JobError> {
     let mut file = opened(rt, path)?;
     Ok(verify(alloc, &mut file, out)?.is_best())
+}
+
+/// Whether the file's text is a sheet's, of which a plan was written.
+fn plan_file<R: Files, O: Write>(
+    alloc: Global,
+    rt: &R,
+    path: &str,
+    out: &mut O,
+) -> Result<bool, JobError> {
+    let mut file = opened(rt, path)?;
+    plan(alloc, &mut file, out)
 }
 
 /// Whether the file's configuration is valid.

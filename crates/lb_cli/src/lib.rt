@@ -1,9 +1,9 @@
 //! The jobs of the program `stickylb`, each over a reader and a writer, so that what it writes for a file's bytes is a
 //! stated function of these bytes.
 //!
-//! Promised: `verify` writes the line of `specs/Verify.antt` for its text, and `check` the report of `specs/Checking.antt` for
-//! its configuration, and nothing else. Start there, and at `perform`, which finds the job's file and tells the program's exit
-//! status.
+//! Promised: `verify` writes the line of `specs/Verify.antt` for its text, `plan` an answer of `specs/Planning.antt` for its
+//! sheet, and `check` the report of `specs/Checking.antt` for its configuration, and nothing else. Start there, and at
+//! `perform`, which finds the job's file and tells the program's exit status.
 #![tactic(auto)]
 
 mod check_job;
@@ -11,12 +11,14 @@ mod finding;
 mod input;
 mod job_error;
 mod jobs;
+mod plan_job;
 mod verify_job;
 
 pub use check_job::check;
 pub use finding::Finding;
 pub use job_error::JobError;
 pub use jobs::perform;
+pub use plan_job::plan;
 pub use verify_job::verify;
 
 #[cfg(test)]

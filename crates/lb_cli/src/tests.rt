@@ -1,6 +1,6 @@
 //! Readers and writers that fail. Whole texts with their answers are in the crate `lb_rows`.
 
-use crate::{JobError, check, perform, verify};
+use crate::{JobError, check, perform, plan, verify};
 use lb_cli_words::Job;
 use std::io;
 use std::io::{ErrorKind, Read, Write};
@@ -41,6 +41,10 @@ fn a_file_that_breaks_can_not_be_read(rt: HostRuntime) {
             Some(error)
         );
         assert_eq!(rt;
+            plan(rt.alloc(), &mut Broken { kind }, &mut out).err(),
+            Some(error)
+        );
+        assert_eq!(rt;
             check(rt.alloc(), &mut Broken { kind }, &mut out).err(),
             Some(error)
         );
@@ -58,6 +62,11 @@ fn an_answer_that_can_not_be_written_is_told(rt: HostRuntime) {
         verify(rt.alloc(), &mut text, &mut full).err(),
         Some(JobError::CannotWrite)
     );
+    let mut text = b"stickysheet 1\nversion 0\nend\n".as_slice();
+    assert_eq!(rt;
+        plan(rt.alloc(), &mut text, &mut full).err(),
+        Some(JobError::CannotWrite)
+    );
     let mut text = b"backend web\n".as_slice();
     assert_eq!(rt;
         check(rt.alloc(), &mut text, &mut full).err(),
@@ -68,7 +77,11 @@ fn an_answer_that_can_not_be_written_is_told(rt: HostRuntime) {
 #[test]
 fn a_missing_file_is_named_on_standard_error(rt: HostRuntime) -> Result<(), Fail> {
     let file = "no such folder/no such file";
-    for job in [Job::Verify { file }, Job::Check { file }] {
+    for job in [
+        Job::Verify { file },
+        Job::Plan { file },
+        Job::Check { file },
+    ] {
         let mut out = Vec::new(rt.alloc());
         let mut err = Vec::new(rt.alloc());
         assert_eq!(rt; perform(rt.alloc(), &rt, job, &mut out, &mut err), 1);

@@ -149,6 +149,18 @@ verify_is = record {
   agrees_behind = file_result (codes "verify");
 }
 
+plan_is : IsCommand (codes "plan") (file_shape (codes "plan"))
+unfolding clap_on_literals
+plan_is = record {
+  begins = refl;
+  passes = refl;
+  enters = λ others. refl;
+  found = λ others. refl;
+  named = λ rows. refl;
+  help = λ program others. refl;
+  agrees_behind = file_result (codes "plan");
+}
+
 check_is : IsCommand (codes "check") check_shape
 unfolding clap_on_literals
 check_is = record {
@@ -166,16 +178,17 @@ check_is = record {
 -- the word is no command of the table
 abbrev IsOther : Text → Type 0
 IsOther command =
-    (bytes_eq (codes "verify") command ≡ false) × (bytes_eq (codes "check") command ≡ false)
+    (bytes_eq (codes "verify") command ≡ false) × (bytes_eq (codes "plan") command ≡ false) × (bytes_eq (codes "check") command ≡ false)
 
 no_row : (program command : Text) (others : List Text) → IsOther command → wished_on (program ∷ command ∷ others) ≡ wish None (is_help command)
 no_row program command others differs =
     let no_verify : bytes_eq command (codes "verify") ≡ false = bytes_eq_sym command (codes "verify") ∙ differs.0 in
-    let no_check : bytes_eq command (codes "check") ≡ false = bytes_eq_sym command (codes "check") ∙ differs.1 in
-    rw (no_verify, no_check, or-false) refl
+    let no_plan : bytes_eq command (codes "plan") ≡ false = bytes_eq_sym command (codes "plan") ∙ differs.1 in
+    let no_check : bytes_eq command (codes "check") ≡ false = bytes_eq_sym command (codes "check") ∙ differs.2 in
+    rw (no_verify, no_plan, no_check, or-false) refl
 
 unmet : (command : Text) → IsOther command → subcommand_met names idle command ≡ None
-unmet command differs = rw (differs.0, differs.1) refl
+unmet command differs = rw (differs.0, differs.1, differs.2) refl
 
 dashes_agree : (program : Text) (others : List Text) → result_on (program ∷ codes "--" ∷ others) ≡ wrong
 unfolding clap_on_literals
@@ -210,19 +223,21 @@ unfolding clap_on_literals
 agrees [] = refl
 agrees (program ∷ []) = refl
 agrees (program ∷ command ∷ others) =
-    go (bytes_eq (codes "verify") command) refl (bytes_eq (codes "check") command) refl
+    go (bytes_eq (codes "verify") command) refl (bytes_eq (codes "plan") command) refl (bytes_eq (codes "check") command) refl
   where
     -- what holds of the command that the word is
     known : (name : Text) → bytes_eq name command ≡ true → result_on (program ∷ name ∷ others) ≡ wished_on (program ∷ name ∷ others)
         → result_on (program ∷ command ∷ others) ≡ wished_on (program ∷ command ∷ others)
     known name same is = subst (λ c. result_on (program ∷ c ∷ others) ≡ wished_on (program ∷ c ∷ others)) ((bytes_eq-Decides name command).0 same) is
 
-    go : (v : Bool) → bytes_eq (codes "verify") command ≡ v → (c : Bool) → bytes_eq (codes "check") command ≡ c → result_on (program ∷ command ∷ others) ≡ wished_on (program ∷ command ∷ others)
-    go true same c u = known (codes "verify") same (command_agrees (codes "verify") _ verify_is program others)
-    go false no_verify true same = known (codes "check") same (command_agrees (codes "check") _ check_is program others)
-    go false no_verify false no_check =
-        other_agrees program command others (no_verify, no_check) (ends_options command) refl (is_option command) refl
-        ∙ sym (no_row program command others (no_verify, no_check))
+    go : (v : Bool) → bytes_eq (codes "verify") command ≡ v → (p : Bool) → bytes_eq (codes "plan") command ≡ p
+        → (c : Bool) → bytes_eq (codes "check") command ≡ c → result_on (program ∷ command ∷ others) ≡ wished_on (program ∷ command ∷ others)
+    go true same p t c u = known (codes "verify") same (command_agrees (codes "verify") _ verify_is program others)
+    go false no_verify true same c u = known (codes "plan") same (command_agrees (codes "plan") _ plan_is program others)
+    go false no_verify false no_plan true same = known (codes "check") same (command_agrees (codes "check") _ check_is program others)
+    go false no_verify false no_plan false no_check =
+        other_agrees program command others (no_verify, no_plan, no_check) (ends_options command) refl (is_option command) refl
+        ∙ sym (no_row program command others (no_verify, no_plan, no_check))
 
 -- ---- what follows for the answer
 

@@ -31,11 +31,13 @@ program_app = let program : App = new_app (codes "stickylb") in record program {
 
 -- the program with its commands
 abbrev pub commands_app : App
-commands_app = with_subcommand (with_subcommand program_app (file_command (codes "verify")).top) check_command.top
+commands_app = with_subcommand (with_subcommand (with_subcommand program_app
+    (file_command (codes "verify")).top) (file_command (codes "plan")).top) check_command.top
 
 -- the row of the table that a subcommand with its matches is
 abbrev pub row_named : Text × List Matched → Option Row
 row_named met =
     if bytes_eq met.0 (codes "verify") then option_map (λ file. (codes "verify", file ∷ [])) (first_of (codes "file") met.1)
+    else if bytes_eq met.0 (codes "plan") then option_map (λ file. (codes "plan", file ∷ [])) (first_of (codes "file") met.1)
     else if bytes_eq met.0 (codes "check") then option_map (λ file. (codes "check", file ∷ [])) (first_of (codes "file") met.1)
     else None

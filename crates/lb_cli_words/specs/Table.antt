@@ -3,7 +3,7 @@ use Rattle.std.specs.Prelude.{◌==◌, ◌||◌, ℕ, Bool, false, List, [], �
 use Rattle.std.specs.Prelude.{Option, Some, None, option_map, option_and_then, if◌then◌else◌, codes, bytes_eq}
 use Rattle.lb_cli_words.specs.Words.{Text, operands, option_file, is_help, asks_help_within, asks_help_beside_file}
 use Rattle.lb_cli_words.specs.declared.job.Job.{Job}
-use Rattle.lb_cli_words.specs.declared.job.Job.TheVariants.{Verify, Check}
+use Rattle.lb_cli_words.specs.declared.job.Job.TheVariants.{Verify, Plan, Check}
 
 -- a row of the table: a command, and its files
 abbrev pub Row : Type 0
@@ -12,13 +12,14 @@ Row = Text × List Text
 -- the row that a job is
 abbrev pub row_of : Job → Row
 row_of (Verify file) = (codes "verify", file.now ∷ [])
+row_of (Plan file) = (codes "plan", file.now ∷ [])
 row_of (Check file) = (codes "check", file.now ∷ [])
 
 -- these files, where they are n
 abbrev pub exactly : ℕ → List Text → Option (List Text)
 exactly n files = if length files == n then Some files else None
 
--- the one file of `verify`
+-- the one file of `verify` and of `plan`
 abbrev pub one_file : List Text → Option (List Text)
 one_file words = option_and_then (exactly 1) (operands words)
 
@@ -26,6 +27,7 @@ one_file words = option_and_then (exactly 1) (operands words)
 abbrev pub files_of : Text → List Text → Option (List Text)
 files_of command words =
     if bytes_eq command (codes "verify") then one_file words
+    else if bytes_eq command (codes "plan") then one_file words
     else if bytes_eq command (codes "check") then option_map (λ file. file ∷ []) (option_file words)
     else None
 
@@ -33,6 +35,7 @@ files_of command words =
 abbrev pub asks_help_of : Text → List Text → Bool
 asks_help_of command words =
     if bytes_eq command (codes "verify") then asks_help_within 1 words
+    else if bytes_eq command (codes "plan") then asks_help_within 1 words
     else if bytes_eq command (codes "check") then asks_help_beside_file words
     else false
 

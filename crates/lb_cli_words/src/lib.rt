@@ -8,6 +8,7 @@
 mod check;
 mod error;
 mod job;
+mod plan;
 mod verify;
 mod words;
 

@@ -24,6 +24,23 @@ fn verify_takes_one_file(rt: HostRuntime) -> Result<(), Fail> {
 }
 
 #[test]
+fn plan_takes_one_file(rt: HostRuntime) -> Result<(), Fail> {
+    let cases: [(&[&str], &str); 3] = [
+        (&["stickylb", "plan", "drain.sheet"], "drain.sheet"),
+        (&["stickylb", "plan", "--", "-f"], "-f"),
+        (&["stickylb", "plan", "plan"], "plan"),
+    ];
+    for (words, file) in cases {
+        assert_eq!(rt;
+            read_words(rt.alloc(), words)?,
+            Job::Plan { file },
+            "at {words:?}"
+        );
+    }
+    Ok(())
+}
+
+#[test]
 fn check_takes_a_file_by_its_option(rt: HostRuntime) -> Result<(), Fail> {
     let cases: [(&[&str], &str); 6] = [
         (&["stickylb", "check", "-f", "web.cfg"], "web.cfg"),
@@ -45,7 +62,7 @@ fn check_takes_a_file_by_its_option(rt: HostRuntime) -> Result<(), Fail> {
 
 #[test]
 fn other_words_are_refused(rt: HostRuntime) -> Result<(), Fail> {
-    let cases: [(&[&str], ErrorKind); 16] = [
+    let cases: [(&[&str], ErrorKind); 18] = [
         (
             &["stickylb"],
             ErrorKind::DisplayHelpOnMissingArgumentOrSubcommand,
@@ -69,7 +86,9 @@ fn other_words_are_refused(rt: HostRuntime) -> Result<(), Fail> {
             &["stickylb", "verify", "-f", "a"],
             ErrorKind::UnknownArgument,
         ),
-        (&["stickylb", "checks", "a"], ErrorKind::InvalidSubcommand),
+        (&["stickylb", "plan"], ErrorKind::MissingRequiredArgument),
+        (&["stickylb", "plan", "a", "b"], ErrorKind::UnknownArgument),
+        (&["stickylb", "plans", "a"], ErrorKind::InvalidSubcommand),
         (&["stickylb", "check"], ErrorKind::MissingRequiredArgument),
         (
             &["stickylb", "check", "web.cfg"],
@@ -101,12 +120,13 @@ fn other_words_are_refused(rt: HostRuntime) -> Result<(), Fail> {
 
 #[test]
 fn help_ends_well(rt: HostRuntime) -> Result<(), Fail> {
-    let cases: [&[&str]; 7] = [
+    let cases: [&[&str]; 8] = [
         &["stickylb", "--help"],
         &["stickylb", "-h"],
         &["stickylb", "verify", "--help"],
         &["stickylb", "verify", "-h"],
         &["stickylb", "verify", "a", "--help"],
+        &["stickylb", "plan", "-h"],
         &["stickylb", "check", "-h"],
         &["stickylb", "check", "-fa", "--help"],
     ];
@@ -126,8 +146,8 @@ fn help_names_the_commands_and_their_files(rt: HostRuntime) -> Result<(), Fail> 
             "Usage: stickylb <COMMAND>\n\nCommands:\n  verify  Check that a plan",
         ),
         (
-            &["stickylb", "check", "--help"],
-            "Usage: stickylb check -f <FILE>\n",
+            &["stickylb", "plan", "--help"],
+            "Usage: stickylb plan <FILE>\n\nArguments:\n  <FILE>  File that holds",
         ),
         (
             &["stickylb", "verify", "--help"],

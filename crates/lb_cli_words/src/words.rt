@@ -4,7 +4,7 @@ ghost use Rattle.lb_cli_words.specs.Words.{texts};
 ghost use Rattle.lb_cli_words.specs.Table.{row_in, row_of, asks_help};
 ghost use Rattle.lb_cli_words.specs.Clap.{commands_app, row_named};
 
-use crate::{Error, ErrorKind, Job, check, verify};
+use crate::{Error, ErrorKind, Job, check, plan, verify};
 use clap::{ArgMatches, Command};
 use std::alloc::{AllocError, Global};
 
@@ -35,6 +35,7 @@ fn job<'a>(matches: &ArgMatches<'a>) -> Option<Job<'a>>
     let (command, given) = matches.subcommand()?;
     match command {
         "verify" => verify::job(given),
+        "plan" => plan::job(given),
         "check" => check::job(given),
         _ => None,
     }
@@ -50,5 +51,6 @@ fn commands<'a>(alloc: Global) -> Result<Command<'a>, AllocError>
         .subcommand_required(true)
         .disable_help_subcommand(true)
         .subcommand(verify::command(alloc)?)?
+        .subcommand(plan::command(alloc)?)?
         .subcommand(check::command(alloc)?)
 }

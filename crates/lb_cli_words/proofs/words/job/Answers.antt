@@ -13,6 +13,14 @@ returns-in-verify c =
     c.job.ensures ∙ ap (option_map (λ file. (codes "verify", file ∷ []))) (first_value-rows given (codes "file"))
     ∙ sym (ap (option_and_then row_named) (met ∙ ap (λ name. Some (name, rows_of given)) c.in-verify.is))
 
+pub returns-in-plan : goal.returns-in-plan
+returns-in-plan c =
+    let given = found_of c.in_ok-command.given.now in
+    let met : subcommand_rows_of c.args.matches.now ≡ Some (c.in_ok-command.command.now, rows_of given) =
+    met_is _ _ _ c.in_ok-command.ensures.name c.in_ok-command.ensures.rows in
+    c.job-in-plan.ensures ∙ ap (option_map (λ file. (codes "plan", file ∷ []))) (first_value-rows given (codes "file"))
+    ∙ sym (ap (option_and_then row_named) (met ∙ ap (λ name. Some (name, rows_of given)) c.in-plan.is))
+
 pub returns-in-check : goal.returns-in-check
 returns-in-check c =
     let given = found_of c.in_ok-command.given.now in

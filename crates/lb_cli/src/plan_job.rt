@@ -1,0 +1,78 @@
+ghost use Rattle.std.specs.Prelude.{◌≡◌, ◌++◌, ◌∷◌, [], ℕ, List, OnOk, IfOk, IfSome};
+ghost use Rattle.std.specs.Io.KnownBytes.{Appends};
+ghost use Rattle.dual_cert.specs.Faults.{fault_text};
+ghost use Rattle.dual_cert.specs.SheetTexts.{sheet_of_text};
+ghost use Rattle.lb_cli.specs.Planning.{Answers, IsPlanFor, was_read};
+
+use crate::JobError;
+use crate::input::whole;
+use dual_cert::{ReadError, Sheet, TextFault, read_sheet, write_plan};
+use flow_planner::plan as best_plan;
+use lb_types::Counted;
+use std::alloc::{AllocError, Global};
+use std::io::{Read, Write};
+
+/// Reads the text of a sheet to its end, and writes the text of a best plan for it, whose prices show that it is best; or the
+/// first fault of the text. Tells whether the text was a sheet's.
+///
+/// The sheet and the plan's text are held whole: what is larger than memory is want of memory.
+pub fn plan<R: Read, W: Write>(alloc: Global, file: &mut R, out: &mut W) -> Result<bool, JobError>
+    ensures read { IfOk result (λ is_sheet. IfSome (R.remaining file.old) (λ text.
+        is_sheet ≡ was_read (sheet_of_text text))) }
+    ensures written { OnOk result (IfSome (R.remaining file.old) (λ text.
+        (written : List ℕ) × Answers text written × Appends (W.contents out.old) (W.contents out.new) written)) }
+{
+    let text = whole(alloc, file)?;
+    let answer = Answer::to(alloc, &text)?;
+    match out.write_all(&answer.text) {
+        Ok(()) => Ok(answer.is_sheet),
+        Err(_) => Err(JobError::CannotWrite),
+    }
+}
+
+/// What is written for a text.
+#[derive(Drop)]
+struct Answer {
+    is_sheet: bool,
+    text: Vec<u8>,
+}
+
+impl Answer {
+    fn to(alloc: Global, text: &[u8]) -> Result<Answer, AllocError>
+        ensures written { IfOk result (λ answer. Answers text.now answer.text.items) }
+        ensures read { IfOk result (λ answer. answer.is_sheet ≡ was_read (sheet_of_text text.now)) }
+    {
+        match read_sheet(alloc, text) {
+            Ok(sheet) => Ok(Answer {
+                is_sheet: true,
+                text: plan_text(alloc, &sheet)?,
+            }),
+            Err(ReadError::Fault(fault)) => Ok(Answer {
+                is_sheet: false,
+                text: fault_line(alloc, fault)?,
+            }),
+            Err(ReadError::Memory) => Err(AllocError),
+        }
+    }
+}
+
+/// The text of a best plan for the sheet.
+fn plan_text(alloc: Global, sheet: &Sheet) -> Result<Vec<u8>, AllocError>
+    ensures { IfOk result (λ text. IsPlanFor sheet.now text.items) }
+{
+    let planned = best_plan(alloc, sheet)?;
+    let mut text = Counted::new(Vec::new(alloc));
+    match write_plan(planned.plan(), &mut text) {
+        Ok(()) => Ok(text.into_inner()),
+        Err(_) => Err(AllocError),
+    }
+}
+
+/// The fault as it is printed, with its line end.
+fn fault_line(alloc: Global, fault: TextFault) -> Result<Vec<u8>, AllocError>
+    ensures { IfOk result (λ line. line.items ≡ fault_text fault ++ 10 ∷ []) }
+{
+    let mut line = fault.text(alloc)?;
+    line.push('\n')?;
+    Ok(line.into_bytes())
+}
