@@ -1,0 +1,52 @@
+ghost use Rattle.std.specs.Prelude.{◌≡◌, ℕ, List, length};
+ghost use Rattle.http_relay_body_length.specs.Moves.{Moved, client_faults, server_faults};
+ghost use Rattle.http_relay_body.specs.Bodies.{IsBody};
+
+use http_relay_body_chunks::pass_chunks;
+use http_relay_body_length::{AtHand, BodyFault, pass};
+use http_relay_forward::BodyKind;
+use http_relay_wire::Wire;
+
+/// The bytes of the room that a body goes through.
+const ROOM: usize = 16384;
+
+/// Sends a request's body of this kind from the client to the server, byte for byte. `behind` is what was read of the client
+/// behind the head, and nothing is read past the body's end. It takes no memory: the bytes go through one buffer, and what a
+/// read gave is written before the next.
+pub fn send_body<C: Wire, S: Wire>(
+    kind: BodyKind,
+    behind: &[u8],
+    client: &mut C,
+    server: &mut S,
+) -> Result<(), BodyFault>
+    ensures sent { (left : List ℕ) × Moved (λ _ text. IsBody kind text) behind.now left (C.reading client.old) (C.reading client.new) (S.written server.old) (S.written server.new) result }
+    ensures client { C.faults client.new ≡ client_faults result (C.faults client.old) }
+    ensures server { S.faults server.new ≡ server_faults result (S.faults server.old) }
+    ensures client_written { C.written client.new ≡ C.written client.old }
+    ensures server_reading { S.reading server.new ≡ S.reading server.old }
+{
+    let mut at_hand = AtHand::new(behind);
+    send_through(kind, &mut at_hand, client, server, &mut [0; ROOM])
+}
+
+/// Sends the body through this room.
+fn send_through<C: Wire, S: Wire>(
+    kind: BodyKind,
+    at_hand: &mut AtHand<'_>,
+    client: &mut C,
+    server: &mut S,
+    room: &mut [u8],
+) -> Result<(), BodyFault>
+    requires { length room.old ≡ ROOM }
+    ensures moved { Moved (λ _ text. IsBody kind text) at_hand.old at_hand.new (C.reading client.old) (C.reading client.new) (S.written server.old) (S.written server.new) result }
+    ensures client { C.faults client.new ≡ client_faults result (C.faults client.old) }
+    ensures server { S.faults server.new ≡ server_faults result (S.faults server.old) }
+    ensures client_written { C.written client.new ≡ C.written client.old }
+    ensures server_reading { S.reading server.new ≡ S.reading server.old }
+{
+    match kind {
+        BodyKind::Empty => Ok(()),
+        BodyKind::Length(count) => pass(at_hand, client, server, room, count),
+        BodyKind::Chunked => pass_chunks(at_hand, client, server, room),
+    }
+}
