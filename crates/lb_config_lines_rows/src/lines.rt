@@ -1,8 +1,10 @@
-use crate::{
-    Balance, IgnoredWords, Section, Setting, SocketAddress, Statement, Timeout, read_line,
-};
+//! Lines of each section, with what each of them says.
+
 use lb_acl::{KeySample, Version};
 use lb_config_arguments::{Fault, LineError};
+use lb_config_lines::{
+    Balance, IgnoredWords, Section, Setting, SocketAddress, Statement, Timeout, read_line,
+};
 use lb_config_words::{SpellingFault, Word};
 use std::alloc::{AllocError, Global};
 use std::process::Abort;
