@@ -74,6 +74,13 @@ impl CostRule {
     {
         &self.cond
     }
+
+    /// The condition, given away.
+    pub fn into_cond(self) -> UnresolvedCond
+        ensures { result ≡ self.cond }
+    {
+        self.cond
+    }
 }
 
 /// The words behind `use_backend`: a name, and a condition or nothing.

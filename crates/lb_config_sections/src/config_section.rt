@@ -61,4 +61,11 @@ impl ConfigSection {
     {
         &self.settings
     }
+
+    /// What its lines set, given away.
+    pub fn into_settings(self) -> Vec<NumberedSetting>
+        ensures { result.items ≡ self.settings }
+    {
+        self.settings
+    }
 }

@@ -37,6 +37,14 @@ impl Sections {
     {
         &self.warnings
     }
+
+    /// The sections and the warnings, given away.
+    pub fn into_lists(self) -> (Vec<ConfigSection>, Vec<Warning>)
+        ensures sections { result.0.items ≡ self.sections }
+        ensures warnings { result.1.items ≡ self.warnings }
+    {
+        (self.sections, self.warnings)
+    }
 }
 
 /// The sections of a configuration and the warnings of its lines, or its first fault: by line, and in a line from the left.

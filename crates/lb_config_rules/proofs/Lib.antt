@@ -1,0 +1,4 @@
+pub mod GroupLaws
+pub mod PartSteps
+pub mod Pushing
+pub mod SameRules
