@@ -1,0 +1,5 @@
+pub mod DefaultsLines
+pub mod GlobalsView
+pub mod ServerView
+pub mod Servers
+pub mod Values

@@ -1,0 +1,128 @@
+ghost use Rattle.std.specs.Prelude.{◌≡◌, ◌≤◌, IfOk, unwrap_or};
+ghost use Rattle.lb_config_values.specs.Servers.{admin_of, settings_of, server_of};
+ghost use Rattle.lb_config_values.specs.ServerView.{settings_view};
+
+use crate::SharedCheck;
+use check_rule::CheckRule;
+use lb_config_arguments::Endpoint;
+use lb_config_server::{ServerLine, ServerOptions};
+use lb_types::Name;
+use server_state::{AdminState, CheckSettings, ServerSettings};
+use std::alloc::{AllocError, Global};
+use std::marker::Model;
+
+/// A server of a backend, as the configuration has it.
+#[derive(Debug, Drop)]
+pub struct ServerConfig {
+    name: Name,
+    endpoint: Endpoint,
+    settings: ServerSettings,
+    interval: u32,
+    check: SharedCheck,
+}
+
+impl Model for ServerConfig {
+    ghost use Rattle.lb_config_values.specs.ServerView.{ServerView, settings_view};
+    ghost use Rattle.lb_config_values.specs.Servers.{check_request_at};
+
+    ghost Value = { ServerView };
+
+    ghost view = { λ server. record {
+      name = server.name;
+      endpoint = server.endpoint;
+      settings = settings_view server.settings;
+      interval = server.interval;
+      check_request = check_request_at server.check server.endpoint;
+    } };
+}
+
+impl ServerConfig {
+    /// The server of a line, of which `options` say what the line and the `default-server` lines before it say. It may hold
+    /// `max_pins` pins where no `maxpins` is said.
+    pub(crate) fn of(
+        max_pins: u32,
+        check: SharedCheck,
+        options: ServerOptions,
+        line: &ServerLine,
+    ) -> Self
+        requires { max_pins ≤ 16777216 }
+        ensures { result ≡ server_of max_pins check options line.now }
+    {
+        ServerConfig {
+            name: line.name,
+            endpoint: line.endpoint,
+            settings: settings_of(max_pins, options),
+            interval: options.interval.unwrap_or(2000),
+            check,
+        }
+    }
+
+    /// The server's name.
+    pub fn name(&self) -> Name
+        ensures { result ≡ self.now.name }
+    {
+        self.name
+    }
+
+    /// Where it is reached.
+    pub fn endpoint(&self) -> Endpoint
+        ensures { result ≡ self.now.endpoint }
+    {
+        self.endpoint
+    }
+
+    /// What commands may change, and how its checks count.
+    pub fn settings(&self) -> ServerSettings
+        ensures { settings_view result ≡ self.now.settings }
+    {
+        self.settings
+    }
+
+    /// `inter`: how many milliseconds stand between two checks; 2000 where it isn't said.
+    pub fn interval(&self) -> u32
+        ensures { result ≡ self.now.interval }
+    {
+        self.interval
+    }
+
+    /// What a check of it sends. Each call makes the request anew: call it once, before the first check. The error is want of
+    /// memory.
+    pub fn check_rule(&self, alloc: Global) -> Result<CheckRule, AllocError>
+        ensures { IfOk result (λ rule. rule ≡ self.now.check_request) }
+    {
+        self.check.rule_at(alloc, self.endpoint)
+    }
+}
+
+/// The settings at the start: what is said, else a weight of 1, no limit of connections, and `rise` 2 and `fall` 3.
+fn settings_of(max_pins: u32, options: ServerOptions) -> ServerSettings
+    requires { max_pins ≤ 16777216 }
+    ensures { settings_view result ≡ settings_of max_pins options }
+{
+    let check = CheckSettings {
+        rise: options.rise.unwrap_or(2),
+        fall: options.fall.unwrap_or(3),
+    };
+    ServerSettings {
+        admin: admin_of(options.is_disabled),
+        weight: options.weight.unwrap_or(1),
+        max_connections: options.max_connections.unwrap_or(0),
+        max_pins: options.max_pins.unwrap_or(max_pins),
+        backup: options.is_backup,
+        check: if options.is_checked {
+            Some(check)
+        } else {
+            None
+        },
+    }
+}
+
+fn admin_of(is_disabled: bool) -> AdminState
+    ensures { result ≡ admin_of is_disabled }
+{
+    if is_disabled {
+        AdminState::Maint
+    } else {
+        AdminState::Ready
+    }
+}

@@ -1,0 +1,63 @@
+ghost use Rattle.std.specs.Prelude.{◌≡◌, ◌≤◌, ◌++◌, IfOk, OnOk};
+ghost use Rattle.std.specs.Option.{option_to_list};
+ghost use Rattle.lb_config_server.specs.Options.{no_options};
+ghost use Rattle.lb_config_values.specs.Servers.{default_options, server_in, servers_behind};
+
+use crate::server_options::{options_over, with_default};
+use crate::{ServerConfig, SharedCheck};
+use lb_config_lines::Setting;
+use lb_config_sections::NumberedSetting;
+use lb_config_server::ServerOptions;
+use std::alloc::{AllocError, Global};
+
+/// What the `default-server` lines of a `defaults` section say of the servers behind it.
+pub(crate) fn default_options(settings: &[NumberedSetting]) -> ServerOptions
+    ensures { result ≡ default_options no_options settings.now }
+{
+    let mut defaults = ServerOptions::none();
+    for numbered in settings {
+        defaults = with_default(defaults, &numbered.setting);
+    }
+    defaults
+}
+
+/// The servers of a section, in their order. `defaults` is what is said of servers before the section, `max_pins` how many pins
+/// a server may hold of which no `maxpins` is said, and `check` what checks send. The error is want of memory.
+pub fn read_servers(
+    alloc: Global,
+    max_pins: u32,
+    check: &SharedCheck,
+    defaults: ServerOptions,
+    settings: &[NumberedSetting],
+) -> Result<Vec<ServerConfig>, AllocError>
+    requires { max_pins ≤ 16777216 }
+    ensures { IfOk result (λ servers. servers.items ≡ servers_behind max_pins check.now defaults settings.now) }
+{
+    let mut servers = Vec::new(alloc);
+    let mut options = defaults;
+    for numbered in settings {
+        let setting = &numbered.setting;
+        push_server(max_pins, check, options, setting, &mut servers)?;
+        options = with_default(options, setting);
+    }
+    Ok(servers)
+}
+
+/// Puts the server behind the others, if the setting is one.
+fn push_server(
+    max_pins: u32,
+    check: &SharedCheck,
+    options: ServerOptions,
+    setting: &Setting,
+    servers: &mut Vec<ServerConfig>,
+) -> Result<(), AllocError>
+    requires { max_pins ≤ 16777216 }
+    ensures { OnOk result (servers.new.items ≡ servers.old.items ++ option_to_list (server_in max_pins check.now options setting.now)) }
+{
+    if let Setting::Server(line) = setting {
+        let options = options_over(options, line.options);
+        let server = ServerConfig::of(max_pins, check.share()?, options, line);
+        servers.push(server)?;
+    }
+    Ok(())
+}
