@@ -24,7 +24,7 @@ use std::time::Instant;
 #[derive(Clone, Copy)]
 struct Work {
     pushes: u64,
-    looks: u64,
+    looks: u128,
 }
 
 fn main(rt: HostRuntime) -> Result<()> {
@@ -63,10 +63,10 @@ fn make_plan(rt: &impl Runtime, alloc: Global, text: &[u8], bytes: &mut Vec<u8>)
 /// Tells how much work it was, and whether it is within what is proved: a push a pin, and a look for each group and each two
 /// options a push.
 fn tell_work(rt: &impl Runtime, farm: &Farm, work: Work) -> Result<()> {
-    let options = u64::from(farm.servers).saturating_add(2);
-    let groups = u64::from(farm.groups).saturating_add(1);
+    let options = u128::from(farm.servers).saturating_add(2);
+    let groups = u128::from(farm.groups).saturating_add(1);
     let search = options.saturating_mul(options).saturating_mul(groups);
-    let bound = work.pushes.saturating_mul(search);
+    let bound = u128::from(work.pushes).saturating_mul(search);
     eprintln!(rt;
         "{} pushes, {} looks, of {bound} at most",
         work.pushes, work.looks

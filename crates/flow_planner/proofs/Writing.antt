@@ -79,10 +79,10 @@ planned-lawful sheet plan pushes looks version known =
     record { accepted = same ∙ known.accepted }
 
 -- the looks of one push, by servers and groups
-looks-le : (servers groups : ℕ) → suc servers * (groups * suc servers) ≤ (servers + 2) * (servers + 2) * (groups + 1)
+looks-le : (servers groups : ℕ) → suc servers * ((groups + 1) * suc servers) ≤ (servers + 2) * (servers + 2) * (groups + 1)
 looks-le servers groups =
-    let first = mul-le (suc servers) groups (servers + 2) (groups + 1) (omega arith) (omega arith) in
-    let second = mul-le (suc servers * groups) (suc servers) ((servers + 2) * (groups + 1)) (servers + 2) first (omega arith) in
+    let first = mul-le (suc servers) (groups + 1) (servers + 2) (groups + 1) (omega arith) (omega arith) in
+    let second = mul-le (suc servers * (groups + 1)) (suc servers) ((servers + 2) * (groups + 1)) (servers + 2) first (omega arith) in
     omega (arith, second)
 
 -- all groups' pins

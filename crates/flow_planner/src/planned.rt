@@ -56,9 +56,9 @@ impl Planned {
     }
 
     /// How many times it was tested whether a group's pins may go from one option to another.
-    pub fn looks(&self) -> u64
+    pub fn looks(&self) -> u128
         ensures { result ≡ self.now.looks }
     {
-        self.looks
+        u128::from(self.looks)
     }
 }

@@ -5,4 +5,5 @@ pub mod SearchSteps
 pub mod StateSteps
 pub mod PriceSteps
 pub mod PushSteps
+pub mod ForgetSteps
 pub mod RelieveSteps

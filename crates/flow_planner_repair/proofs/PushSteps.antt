@@ -1,6 +1,6 @@
 -- One arc of a push along the way back, after the arcs before it.
-use Rattle.std.proofs.Common.{◌≡◌, ℕ, ◌+◌, ◌<◌, ◌≤◌, ◌≢◌, true, false, List, length, refl, sym, ap, ◌∙◌, inl, inr, arith}
-use Rattle.std.proofs.lemmas.Bool.{cases_eq, eq-eqb, ne_eqb, false≢true}
+use Rattle.std.proofs.Common.{◌≡◌, ℕ, ◌+◌, ◌<◌, ◌≤◌, ◌≢◌, List, refl, sym, ap, ◌∙◌, inl, inr, arith}
+use Rattle.std.proofs.lemmas.Bool.{cases_eq, eq-eqb, ne_eqb}
 use Rattle.pin_set.specs.Costs.{sum_to}
 use Rattle.flow_planner_net.specs.Networks.{NetworkParts, IsNetwork, options, size}
 use Rattle.flow_planner_net.specs.States.{full, AllPlaced, IsCheapest}
@@ -9,7 +9,6 @@ use Rattle.flow_planner_net.proofs.Sums.{two-le-sum_to}
 use Rattle.flow_planner_net.proofs.Numbers.{count-le}
 use Rattle.flow_planner_net.proofs.Moves.{moved_rows, moved-source, moved-target, moved-other, moved_cheapest}
 use Rattle.flow_planner_repair.specs.declared.label.Label.{Label}
-use Rattle.flow_planner_repair.specs.LeastArcs.{ArcsParts, is_fresh, AreForgotten}
 use Rattle.flow_planner_repair.specs.Searches.{dist, source, via, rank}
 use Rattle.flow_planner_repair.specs.Pushes.{pins_at, IsTied, IsTrail, IsTight, IsPushed}
 
@@ -95,41 +94,3 @@ trail_back network used labels start o tied trail k within ne near = trail k wit
 pub tight_back : (network : NetworkParts) (used : ℕ → ℕ → ℕ) (price : ℕ → ℕ) (labels : List Label) (start o : ℕ) → IsTied network used labels o (source labels o) (via labels o)
     → IsTight network price labels start (dist labels o) → IsTight network price labels start (dist labels (source labels o))
 tight_back network used price labels start o tied tight k within ne near = tight k within ne (omega (arith, tied.nearer))
-
--- the arcs from both ends of a move are forgotten, after those from the options before
-pub forgotten_more : (network : NetworkParts) (old middle new : ℕ → ℕ → ℕ) (before o group q : ℕ) (arcs inner one two : ArcsParts)
-    → IsMoved (size network) middle new before o group q → AreForgotten network old middle arcs inner
-    → one.least ≡ inner.least → one.looks ≡ inner.looks → length one.fresh ≡ length inner.fresh → is_fresh one.fresh before ≡ false
-    → ((k : ℕ) → k ≢ before → is_fresh one.fresh k ≡ is_fresh inner.fresh k)
-    → two.least ≡ one.least → two.looks ≡ one.looks → length two.fresh ≡ length one.fresh → is_fresh two.fresh o ≡ false
-    → ((k : ℕ) → k ≢ o → is_fresh two.fresh k ≡ is_fresh one.fresh k)
-    → AreForgotten network old new arcs two
-forgotten_more network old middle new before o group q arcs inner one two move first least1 looks1 rows1 stale1 others1 least2 looks2 rows2 stale2 others2 = record {
-  least = least2 ∙ (least1 ∙ first.least);
-  looks = looks2 ∙ (looks1 ∙ first.looks);
-  rows = rows2 ∙ (rows1 ∙ first.rows);
-  fresh = λ k within is. first.fresh k within (inside k is);
-  used = λ k g within group_in is.
-      move.other_options k g group_in (away1 k is) (away2 k is) ∙ first.used k g within group_in (inside k is);
-}
-  where
-    away2 : (k : ℕ) → is_fresh two.fresh k ≡ true → k ≢ o
-    away2 k is same = let no_longer : is_fresh two.fresh k ≡ false = rw same stale2 in false≢true (sym no_longer ∙ is)
-
-    away1 : (k : ℕ) → is_fresh two.fresh k ≡ true → k ≢ before
-    away1 k is same =
-        let still : is_fresh one.fresh k ≡ true = sym (others2 k (away2 k is)) ∙ is in
-        let no_longer : is_fresh one.fresh k ≡ false = rw same stale1 in
-        false≢true (sym no_longer ∙ still)
-
-    inside : (k : ℕ) → is_fresh two.fresh k ≡ true → is_fresh inner.fresh k ≡ true
-    inside k is = sym (others1 k (away1 k is)) ∙ (sym (others2 k (away2 k is)) ∙ is)
-
-pub forgotten_none : (network : NetworkParts) (used : ℕ → ℕ → ℕ) (arcs : ArcsParts) → AreForgotten network used used arcs arcs
-forgotten_none network used arcs = record {
-  least = refl;
-  looks = refl;
-  rows = refl;
-  fresh = λ k within is. is;
-  used = λ k g within group is. refl;
-}

@@ -1,12 +1,11 @@
 -- Loads after a push, and what stands beyond the options' room.
-use Rattle.std.proofs.Common.{◌≡◌, Option, Some, None, ℕ, ◌+◌, ◌-◌, ◌<◌, ◌≤◌, ◌≢◌, List, sym, ◌∙◌, subst, inl, inr, arith}
+use Rattle.std.proofs.Common.{◌≡◌, ℕ, ◌+◌, ◌-◌, ◌<◌, ◌≤◌, ◌≢◌, List, sym, ◌∙◌, subst, inl, inr, arith}
 use Rattle.std.proofs.lemmas.Bool.{cases_eq}
 use Rattle.cert_check_law.proofs.Sums.{sum_to-le, le-sum_to}
-use Rattle.flow_planner_net.specs.Networks.{NetworkParts, IsNetwork, options, size, capacity}
+use Rattle.flow_planner_net.specs.Networks.{NetworkParts, IsNetwork, options, capacity}
 use Rattle.flow_planner_net.specs.States.{IsCheapest, IsPriced, AreLoads, IsState}
 use Rattle.flow_planner_net.proofs.Sums.{sum_to-changed_below}
 use Rattle.flow_planner_repair.specs.declared.label.Label.{Label}
-use Rattle.flow_planner_repair.specs.LeastArcs.{ArcsParts, least_of, IsLeast, AreKept, AreForgotten}
 use Rattle.flow_planner_repair.specs.Pushes.{IsPushed}
 use Rattle.flow_planner_repair.specs.Repairs.{excess}
 use Rattle.flow_planner_repair.proofs.PushSteps.{pins_at-here, pins_at-away}
@@ -91,21 +90,3 @@ pub excess-some : (network : NetworkParts) (load : ℕ → ℕ) (o : ℕ) → o 
 unfolding excess
 excess-some network load o within over =
     omega (arith, le-sum_to (options network) (λ o. load o - capacity network o) o within)
-
--- least arcs stay least where pins stand as they stood
-least-same : (network : NetworkParts) (old new : ℕ → ℕ → ℕ) (o k : ℕ) (arc : Option ℕ) → ((g : ℕ) → g < size network → new o g ≡ old o g)
-    → IsLeast network old (size network) o k arc → IsLeast network new (size network) o k arc
-least-same network old new o k None same least = λ g group carried allowed. least g group (omega (arith, same g group)) allowed
-least-same network old new o k (Some best) same least = record {
-  there = least.there;
-  carried = omega (arith, same best least.there, least.carried);
-  allowed = least.allowed;
-  least = λ g group carried allowed. least.least g group (omega (arith, same g group)) allowed;
-}
-
-pub forgotten_kept : (network : NetworkParts) (old new : ℕ → ℕ → ℕ) (before after : ArcsParts) → AreForgotten network old new before after
-    → AreKept network old before → AreKept network new after
-forgotten_kept network old new before after forgotten kept o within fresh k inside =
-    let was = kept o within (forgotten.fresh o within fresh) k inside in
-    let now = least-same network old new o k (least_of (options network) before.least o k) (λ g group. forgotten.used o g within group fresh) was in
-    subst (λ least. IsLeast network new (size network) o k (least_of (options network) least o k)) (sym forgotten.least) now

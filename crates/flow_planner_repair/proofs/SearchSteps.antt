@@ -197,6 +197,11 @@ module _ (network : NetworkParts) (used : ℕ → ℕ → ℕ) (price load : ℕ
                 | inr other ↦ omega (arith, rank_other o within other, step.search.below o within before)
               ]
         ];
+    ranks = λ o within.
+        elim (cases_eq o here) [
+          | inl same ↦ omega (arith, ap (rank new) same, rank_here, more_room)
+          | inr other ↦ omega (arith, rank_other o within other, step.search.ranks o within)
+        ];
     counted =
         let changed = sum_to-changed_below (options network) (mark (options network) old) (mark (options network) new) here step.nearest.there
         (λ s below ne. ap (λ r. min 1 (options network - r)) (sym (rank_other s below ne))) in

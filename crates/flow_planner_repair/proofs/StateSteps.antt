@@ -74,6 +74,7 @@ search_start network used price load labels start zero away open_all = record {
   reached = λ o within ne near. absurd (omega (arith, away o within ne));
   relaxed = λ o within now. absurd (omega (arith, open_all o within));
   below = λ o within now. absurd (omega (arith, open_all o within));
+  ranks = λ o within. omega (arith, open_all o within);
   counted = sum_to-zero (options network) (mark (options network) labels) (λ o within. omega (arith, open_all o within));
   busy = λ o within now. absurd (omega (arith, open_all o within));
 }

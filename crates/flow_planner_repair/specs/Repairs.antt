@@ -1,5 +1,5 @@
 -- The repair of a placing that leaves some options with more pins than room.
-use Rattle.std.specs.Prelude.{◌≡◌, ℕ, ◌-◌, ◌*◌, List, length}
+use Rattle.std.specs.Prelude.{◌≡◌, ℕ, ◌+◌, ◌-◌, ◌*◌, List, length}
 use Rattle.pin_set.specs.Costs.{sum_to}
 use Rattle.flow_planner_net.specs.Networks.{NetworkParts, IsNetwork, options, size, capacity}
 use Rattle.flow_planner_net.specs.States.{used_of}
@@ -21,5 +21,9 @@ unfoldable pub excess : NetworkParts → (ℕ → ℕ) → ℕ
 excess network load = sum_to (options network) (λ o. load o - capacity network o)
 
 -- the looks of one search at most: each group's at each option, for each option that is settled
+abbrev pub search_looks : NetworkParts → ℕ
+search_looks network = options network * (size network * options network)
+
+-- the looks of one push at most: those of its search, and those of one group at each option, for each option on the way
 abbrev pub most_looks : NetworkParts → ℕ
-most_looks network = options network * (size network * options network)
+most_looks network = options network * ((size network + 1) * options network)

@@ -57,6 +57,7 @@ pub record IsSearch (network : NetworkParts) (used : ℕ → ℕ → ℕ) (price
   pub reached : (o : ℕ) → o < options network → o ≢ start → dist labels o < far → IsReached network used price labels o
   pub relaxed : (o : ℕ) → o < options network → rank labels o < options network → IsRelaxed network used price labels o
   pub below : (o : ℕ) → o < options network → rank labels o < options network → rank labels o < settled
+  pub ranks : (o : ℕ) → o < options network → rank labels o ≤ options network
   pub counted : sum_to (options network) (mark (options network) labels) ≡ settled
   pub busy : (o : ℕ) → o < options network → rank labels o < options network → capacity network o ≤ load o
 

@@ -6,6 +6,7 @@
 #![tactic(auto)]
 
 mod arcs;
+mod forget;
 mod label;
 mod push;
 mod relieve;

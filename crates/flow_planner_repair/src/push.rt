@@ -3,10 +3,11 @@ ghost use Rattle.flow_planner_net.specs.Networks.{IsNetwork, options, size, limi
 ghost use Rattle.flow_planner_net.specs.States.{used_of, at, AllPlaced, IsCheapest};
 ghost use Rattle.flow_planner_net.specs.Moves.{IsMoved};
 ghost use Rattle.flow_planner_repair.specs.LeastArcs.{AreArcs, AreForgotten};
-ghost use Rattle.flow_planner_repair.specs.Searches.{dist, far};
+ghost use Rattle.flow_planner_repair.specs.Searches.{dist, rank, far};
 ghost use Rattle.flow_planner_repair.specs.Pushes.{raised, IsTrail, IsTight, IsPushed};
 
 use crate::Arcs;
+use crate::forget::forget_move;
 use crate::label::Label;
 use flow_planner_net::Network;
 
@@ -29,7 +30,8 @@ pub(crate) fn raise(network: &Network, prices: &mut [u64], labels: &[Label], rea
 }
 
 /// Pushes at most `wanted` pins along the way back from `option` to `start`, as many as its narrowest arc allows, and gives
-/// their number. The arcs from every option on the way are forgotten.
+/// their number. The arcs between options that could have become wrong are forgotten, with a look at each option for each one on
+/// the way.
 pub(crate) fn push(
     network: &Network,
     labels: &[Label],
@@ -47,6 +49,7 @@ pub(crate) fn push(
     requires placed { AllPlaced network.now (used_of (size network.now) counts.old) }
     requires trail { IsTrail network.now (used_of (size network.now) counts.old) labels.now start (dist labels.now option) }
     requires some { 0 < wanted }
+    requires few { arcs.old.looks + rank labels.now option * options network.now < 2 ^ 63 }
     ensures some { 0 < result }
     ensures within { result ≤ wanted }
     ensures table { length counts.new ≡ length counts.old }
@@ -55,6 +58,7 @@ pub(crate) fn push(
         → IsCheapest network.now (used_of (size network.now) counts.old) price
         → IsCheapest network.now (used_of (size network.now) counts.new) price }
     ensures forgotten { AreForgotten network.now (used_of (size network.now) counts.old) (used_of (size network.now) counts.new) arcs.old arcs.new }
+    ensures looks { arcs.new.looks ≤ arcs.old.looks + rank labels.now option * options network.now }
 {
     if option == start {
         return wanted;
@@ -66,13 +70,12 @@ pub(crate) fn push(
     let most = wanted.min(held);
     let moved = push(network, labels, counts, arcs, start, before, most);
     shift(width, counts, before, option, via, moved);
-    arcs.forget(before);
-    arcs.forget(option);
+    forget_move(network, counts, arcs, before, option, via, moved);
     moved
 }
 
 /// How many pins of the group stand at the option.
-fn pins_of(width: usize, counts: &[u32], option: usize, group: usize) -> u32
+pub(crate) fn pins_of(width: usize, counts: &[u32], option: usize, group: usize) -> u32
     requires { option * width + group < length counts.now }
     ensures { result ≡ used_of width counts.now option group }
 {

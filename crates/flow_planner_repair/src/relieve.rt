@@ -73,7 +73,8 @@ fn ease(
 
 /// Pushes pins until no option has more of them than room, and gives the number of pushes.
 ///
-/// At most as many pushes as pins stand beyond the options' room, and at most `options * groups * options` looks for each.
+/// At most as many pushes as pins stand beyond the options' room, and at most `options * (groups + 1) * options` looks
+/// for each.
 pub fn repair(
     network: &Network,
     counts: &mut [u32],

@@ -3,7 +3,7 @@ ghost use Rattle.flow_planner_net.specs.Networks.{options, size, cost, may, capa
 ghost use Rattle.flow_planner_net.specs.States.{full, used_of, at, IsState};
 ghost use Rattle.flow_planner_repair.specs.LeastArcs.{ArcsParts, AreArcs, AreKept, AreLeast, least_of};
 ghost use Rattle.flow_planner_repair.specs.Searches.{no_label, dist, source, via, rank, far, IsFollowed, IsFound, IsNearest, IsUphill};
-ghost use Rattle.flow_planner_repair.specs.Repairs.{IsLaid, most_looks};
+ghost use Rattle.flow_planner_repair.specs.Repairs.{IsLaid, search_looks};
 
 use crate::Arcs;
 use crate::label::{FAR, Label};
@@ -148,10 +148,10 @@ pub(crate) fn search(
     requires state { IsState network.now (used_of (size network.now) counts.now) (at prices.now) (at loads.now) }
     requires start { start < options network.now }
     requires over { capacity network.now start < at loads.now start }
-    requires few { arcs.old.looks + most_looks network.now < 2 ^ 63 }
+    requires few { arcs.old.looks + search_looks network.now < 2 ^ 63 }
     ensures found { (settled : ℕ) × IsFound network.now (used_of (size network.now) counts.now) (at prices.now) (at loads.now) labels.new start result settled }
     ensures laid { IsLaid network.now counts.now prices.now loads.now arcs.new labels.new }
-    ensures looks { arcs.new.looks ≤ arcs.old.looks + most_looks network.now }
+    ensures looks { arcs.new.looks ≤ arcs.old.looks + search_looks network.now }
 {
     begin(labels, start);
     let mut settled = 0;

@@ -73,7 +73,8 @@ excess-pins network used price load state =
 -- the looks of all pushes can be counted
 pub looks-fit : (network : NetworkParts) → IsNetwork network → (n : ℕ) → n ≤ 16777216 → n * most_looks network < 2 ^ 63
 looks-fit network lawful n few =
-    let table = mul-le (size network) (options network) 16777216 129 lawful.few_groups lawful.few_options in
-    let search = mul-le (options network) (size network * options network) 129 (16777216 * 129) lawful.few_options table in
-    let all = mul-le n (most_looks network) 16777216 (129 * (16777216 * 129)) few search in
+    let groups = lawful.few_groups in
+    let table = mul-le (size network + 1) (options network) 16777217 129 (omega (arith, groups)) lawful.few_options in
+    let search = mul-le (options network) ((size network + 1) * options network) 129 (16777217 * 129) lawful.few_options table in
+    let all = mul-le n (most_looks network) 16777216 (129 * (16777217 * 129)) few search in
     omega (arith, all)

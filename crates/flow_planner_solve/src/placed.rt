@@ -12,7 +12,8 @@ use flow_planner_start::start;
 /// Places all pins at options of least cost, and pushes them until no option has more of them than room. Gives the number of
 /// pushes, at most one a pin.
 ///
-/// Takes no memory. Costs a walk over groups and options, and at most `options * groups * options` looks a push.
+/// Takes no memory. Costs a walk over groups and options, and at most `options * (groups + 1) * options` looks a
+/// push.
 pub fn solve(
     network: &Network,
     counts: &mut [u32],

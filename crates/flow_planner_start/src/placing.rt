@@ -54,8 +54,10 @@ fn fill(network: &Network, counts: &mut [u32], loads: &mut [u32], group: usize)
     for option in 0..network.options() {
         let room = room_for(network, loads, group, option, home);
         let pins = left.min(room);
-        put(network, counts, loads, group, option, pins);
-        left -= pins;
+        if pins > 0 {
+            put(network, counts, loads, group, option, pins);
+            left -= pins;
+        }
     }
     put(network, counts, loads, group, home, left);
 }

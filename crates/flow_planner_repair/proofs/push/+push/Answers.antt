@@ -1,10 +1,12 @@
-use Rattle.std.proofs.Common.{◌≡◌, ◌≤◌, refl, subst, ◌∙◌, arith}
+use Rattle.std.proofs.Common.{◌≡◌, ◌≤◌, refl, ap, length, subst, ◌∙◌, arith}
+use Rattle.std.proofs.Math.Nat.{mul-le-mul_right}
 use Rattle.flow_planner_net.specs.Networks.{options, size}
 use Rattle.flow_planner_net.specs.States.{used_of}
 use Rattle.flow_planner_net.specs.Moves.{IsMoved}
 use Rattle.flow_planner_net.proofs.Tables.{place-lt}
 use Rattle.flow_planner_repair.specs.Searches.{source, via}
-use Rattle.flow_planner_repair.proofs.PushSteps.{pushed_none, pushed_more, pushed_cheapest, still_there, trail_back, tight_back, forgotten_more, forgotten_none}
+use Rattle.flow_planner_repair.proofs.PushSteps.{pushed_none, pushed_more, pushed_cheapest, still_there, trail_back, tight_back}
+use Rattle.flow_planner_repair.proofs.ForgetSteps.{forgotten_none, forgotten_both}
 use Rattle.flow_planner_repair.proofs.push.+push.Goals as goal
 
 pub returns-then-option-start : goal.returns-then-option-start
@@ -18,6 +20,7 @@ returns-then-option-start t c =
       pushed = pushed_none network used c.args.labels.now c.args.start c.args.option c.args.wanted c.if-option-start.true;
       cheapest = λ price tight cheapest. cheapest;
       forgotten = forgotten_none network used c.args.arcs.now;
+      looks = omega arith;
     }
 
 pub pins_of-held-requires : goal.pins_of-held-requires
@@ -52,7 +55,10 @@ push-moved-requires t c =
                 c.requires.arcs,
                 (
                   c.requires.placed,
-                  (trail_back network used labels c.args.start option tied c.requires.trail, omega (arith, c.min-most.ensures, c.requires.some)),
+                  (
+                    trail_back network used labels c.args.start option tied c.requires.trail,
+                    (omega (arith, c.min-most.ensures, c.requires.some), omega (arith, c.requires.few, mul-le-mul_right (options network) tied.earlier)),
+                  ),
                 ),
               ),
             ),
@@ -88,15 +94,25 @@ shift-requires t c =
       room = omega (arith, there.1, many);
     })
 
-pub forget-requires : goal.forget-requires
+pub forget_move-requires : goal.forget_move-requires
 unfolding source via
-forget-requires t c =
-    let tied = c.requires.trail c.args.option c.requires.option c.if-option-start.false (omega arith) in
-    omega (arith, c.push-moved.ensures.forgotten.rows, c.requires.arcs.rows, tied.source_in)
-
-pub forget-requires-2 : goal.forget-requires-2
-forget-requires-2 t c =
-    omega (arith, c.forget.ensures.len, c.push-moved.ensures.forgotten.rows, c.requires.arcs.rows, c.requires.option)
+forget_move-requires t c =
+    let network = c.args.network.now in
+    let labels = c.args.labels.now in
+    let option = c.args.option in
+    let tied = c.requires.trail option c.requires.option c.if-option-start.false (omega arith) in
+    let inner = c.push-moved.ensures in
+    record {
+      source = tied.source_in;
+      target = c.requires.option;
+      group = tied.via_in;
+      arcs = record {
+        pairs = ap length inner.forgotten.fewer.least ∙ c.requires.arcs.pairs;
+        marks = inner.forgotten.fewer.marks ∙ c.requires.arcs.marks;
+      };
+      table = c.shift.ensures.len ∙ (inner.table ∙ c.requires.table);
+      few = omega (arith, inner.looks, c.requires.few, mul-le-mul_right (options network) tied.earlier);
+    }
 
 pub returns : goal.returns
 unfolding source via
@@ -125,7 +141,7 @@ returns t c =
           pushed_cheapest network old middle new labels start option before group q c.requires.option tied made.pushed move price
           (tight option c.requires.option c.if-option-start.false (omega arith))
           (made.cheapest price (tight_back network old price labels start option tied tight) cheapest);
-      forgotten = forgotten_more network old middle new before option group q c.args.arcs.now c.push-moved.new.arcs c.forget.new.self c.forget-2.new.self move made.forgotten
-          c.forget.ensures.least c.forget.ensures.looks c.forget.ensures.len c.forget.ensures.stale c.forget.ensures.others
-          c.forget-2.ensures.least c.forget-2.ensures.looks c.forget-2.ensures.len c.forget-2.ensures.stale c.forget-2.ensures.others;
+      forgotten = forgotten_both network old middle new c.args.arcs.now c.push-moved.new.arcs c.forget_move.new.arcs made.forgotten
+          (c.forget_move.ensures.forgotten middle move);
+      looks = omega (arith, c.forget_move.ensures.looks, made.looks, mul-le-mul_right (options network) tied.earlier);
     }

@@ -1,3 +1,4 @@
+use Rattle.std.proofs.Math.Nat.{mul-le-mul_right}
 use Rattle.std.proofs.Common.{◌≡◌, ◌+◌, ◌<◌, ◌≤◌, ◌≢◌, ℕ, length, sym, ap, subst, ◌∙◌, arith}
 use Rattle.flow_planner_net.specs.Networks.{options, size, capacity, limit}
 use Rattle.flow_planner_net.specs.States.{used_of, at}
@@ -7,7 +8,8 @@ use Rattle.flow_planner_repair.specs.Pushes.{raised}
 use Rattle.flow_planner_repair.proofs.Labels.{dist-is}
 use Rattle.flow_planner_repair.proofs.PriceSteps.{raised_cheapest, raised_priced, raised_trail, raised_tight}
 use Rattle.flow_planner_repair.proofs.StateSteps.{load-le}
-use Rattle.flow_planner_repair.proofs.RelieveSteps.{relieved_state, relieved_fits, relieved_less, forgotten_kept}
+use Rattle.flow_planner_repair.proofs.RelieveSteps.{relieved_state, relieved_fits, relieved_less}
+use Rattle.flow_planner_repair.proofs.ForgetSteps.{forgotten_kept}
 use Rattle.flow_planner_repair.proofs.relieve.relieve.Goals as goal
 
 pub raise-requires : goal.raise-requires
@@ -50,7 +52,11 @@ push-moved-requires c =
       placed = c.requires.state.placed;
       trail = raised_trail network laid.lawful used price load c.requires.state labels c.args.start target settled found new change;
       some = omega (arith, c.min-most.ensures, c.requires.over, c.capacity.ensures, at-read c.args.loads.now c.args.start, found.room, c.capacity-2.ensures, at-read c.args.loads.now target);
+      few = omega (arith, c.requires.few, c.search-found.ensures.looks, mul-le-mul_right (options network) (found.search.ranks target found.nearest.there));
     }
+
+pub search-found-requires-clause-few : goal.search-found-requires-clause-few
+search-found-requires-clause-few c = omega (arith, c.requires.few)
 
 pub carry-requires : goal.carry-requires
 carry-requires c =
@@ -109,13 +115,13 @@ returns c =
         loads_len = c.carry.ensures.len ∙ laid.loads_len;
         labels_len = c.search-found.ensures.laid.labels_len;
         arcs_len = record {
-          pairs = ap length forgotten.least ∙ c.search-found.ensures.laid.arcs_len.pairs;
-          rows = forgotten.rows ∙ c.search-found.ensures.laid.arcs_len.rows;
+          pairs = ap length forgotten.fewer.least ∙ c.search-found.ensures.laid.arcs_len.pairs;
+          marks = forgotten.fewer.marks ∙ c.search-found.ensures.laid.arcs_len.marks;
         };
         kept = forgotten_kept network old used c.search-found.new.arcs c.push-moved.new.arcs forgotten c.search-found.ensures.laid.kept;
       };
       state = relieved_state network old used price new load loaded labels start target q c.requires.start found.nearest.there apart state priced cheapest c.push-moved.ensures.pushed taken given c.carry.ensures.taken c.carry.ensures.given c.carry.ensures.others;
       less = omega (arith, less, c.push-moved.ensures.some);
       fits = relieved_fits network old used price new load loaded labels start target q c.requires.start found.nearest.there apart state priced cheapest c.push-moved.ensures.pushed taken given c.carry.ensures.taken c.carry.ensures.given c.carry.ensures.others;
-      looks = omega (arith, forgotten.looks, c.search-found.ensures.looks);
+      looks = omega (arith, c.push-moved.ensures.looks, c.search-found.ensures.looks, mul-le-mul_right (options network) (found.search.ranks target found.nearest.there));
     }

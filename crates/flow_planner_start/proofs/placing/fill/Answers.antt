@@ -1,5 +1,6 @@
 use Rattle.std.proofs.Common.{refl, ◌∙◌, arith}
 use Rattle.flow_planner_start.proofs.placing.fill.Goals as goal
+use Rattle.flow_planner_start.proofs.placing.fill.Goals.{then-pins-gt0, else-pins-gt0}
 
 pub loop-option-init : goal.loop-option-init
 loop-option-init c = record {
@@ -35,12 +36,17 @@ overflow_sub-left c = omega (arith, c.min-pins.ensures)
 pub loop-option-preserved : goal.loop-option-preserved
 loop-option-preserved c =
     let here = c.loop-option in
-    record {
-      roomy = c.put.ensures.roomy;
-      filling = c.put.ensures.filling;
-      placed = omega (arith, c.put.ensures.placed, here.invariant.placed, c.min-pins.ensures);
-      others = λ g within ne. c.put.ensures.others g within ne ∙ here.invariant.others g within ne;
-    }
+    elim c.if-pins-gt0.branch [
+      | then-pins-gt0 w ↦
+          let made = w.put.ensures in
+          rw (w.counts-is, w.loads-is, w.left-is) (record {
+            roomy = made.roomy;
+            filling = made.filling;
+            placed = omega (arith, made.placed, here.invariant.placed, c.min-pins.ensures);
+            others = λ g within ne. made.others g within ne ∙ here.invariant.others g within ne;
+          })
+      | else-pins-gt0 w ↦ rw (w.counts-is, w.loads-is, w.left-is) here.invariant
+    ]
 
 pub put-requires-2 : goal.put-requires-2
 put-requires-2 c =

@@ -1,12 +1,13 @@
-use Rattle.std.proofs.Common.{◌≡◌, ◌*◌, ◌<◌, ℕ, length, None}
-use Rattle.flow_planner_repair.specs.LeastArcs.{OthersAreSame, least_of}
+use Rattle.std.proofs.Common.{◌≡◌, ◌*◌, ◌<◌, ℕ, length, None, false}
+use Rattle.flow_planner_repair.specs.LeastArcs.{KnownAreSame, OthersAreSame, least_of, is_fresh}
 use Rattle.flow_planner_repair.proofs.arcs.Arcs.clear.Given as goal
 
 abbrev pub invariant-loop-target : goal.invariant-loop-target
 invariant-loop-target l = record {
-  pairs : length l.self-inside.least.items ≡ l.width * l.width;
-  none : (k : ℕ) → k < l.target → least_of l.width l.self-inside.least.items l.source k ≡ None;
-  others : OthersAreSame l.width l.source l.fn.self.least l.self-inside.least.items;
-  fresh : l.self-inside.fresh.items ≡ l.fn.self.fresh;
-  looks : l.self-inside.looks ≡ l.fn.self.looks;
+  pairs : length l.self.least ≡ l.width * l.width;
+  none : (k : ℕ) → k < l.target → is_fresh l.width l.fn.self.fresh l.source k ≡ false → least_of l.width l.self.least l.source k ≡ None;
+  known : KnownAreSame l.width l.source l.fn.self.fresh l.fn.self.least l.self.least;
+  others : OthersAreSame l.width l.source l.fn.self.least l.self.least;
+  fresh : l.self.fresh ≡ l.fn.self.fresh;
+  looks : l.self.looks ≡ l.fn.self.looks;
 }

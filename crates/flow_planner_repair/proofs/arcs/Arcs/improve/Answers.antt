@@ -71,7 +71,7 @@ returns c =
     record {
       arcs = record {
         pairs = omega (arith, length-set c.self.inside.least.items (source * c.options-width.result + target) (Some group), c.requires.arcs.pairs, ap length same);
-        rows = omega (arith, c.requires.arcs.rows, ap (λ (arcs : ArcsParts). length arcs.fresh) c.self.view_is);
+        marks = omega (arith, c.requires.arcs.marks, ap (λ (arcs : ArcsParts). length arcs.fresh) c.self.view_is);
       };
       groups = made.groups;
       others = made.others;

@@ -1,8 +1,8 @@
-use Rattle.std.proofs.Common.{◌≡◌, ◌<◌, false, length, ap, sym, subst, refl, ◌∙◌, arith}
-use Rattle.flow_planner_net.specs.Networks.{options, may}
-use Rattle.flow_planner_repair.proofs.ArcSteps.{IsOffered, offered_more, offered_past}
+use Rattle.std.proofs.Common.{◌≡◌, ◌<◌, get_or, true, false, length, sym, subst, refl, ◌∙◌, arith}
+use Rattle.flow_planner_net.specs.Networks.{options}
+use Rattle.flow_planner_repair.specs.LeastArcs.{is_fresh, IsListed}
+use Rattle.flow_planner_repair.proofs.ArcSteps.{offered_more}
 use Rattle.flow_planner_repair.proofs.arcs.Arcs.offer.Goals as goal
-use Rattle.flow_planner_repair.proofs.arcs.Arcs.offer.Goals.{then-look, else-look}
 
 pub loop-target-init : goal.loop-target-init
 loop-target-init c = record {
@@ -10,8 +10,9 @@ loop-target-init c = record {
   offered = record {
     groups = c.requires.groups;
     others = λ o k inside ne. refl;
-    found = λ used k some least below within. absurd (omega arith);
-    rest = λ k above within. refl;
+    known = λ k within is. refl;
+    found = λ used k some stale least within listed. let below = listed.below in absurd (omega arith);
+    rest = λ used k some stale least within. least;
   };
   fresh = refl;
   looks = omega arith;
@@ -21,45 +22,32 @@ pub loop-target-preserved : goal.loop-target-preserved
 loop-target-preserved c =
     let network = c.args.network.now in
     let source = c.args.source in
-    let group = c.args.group in
-    let old = c.args.self.now.least in
     let here = c.loop-target in
-    let target = here.target in
-    let within : target < options network = omega (arith, c.options-target-end.ensures.exact) in
-    let looked = c.look.new.self in
-    let before : IsOffered network source group old looked.least target =
-    subst (λ least. IsOffered network source group old least target) (sym c.look.ensures.least) here.invariant.offered in
-    elim c.if-look.branch [
-      | then-look w ↦
-          let made = w.improve.ensures in
-          rw w.self-is (record {
-            arcs = made.arcs;
-            offered = offered_more network source group old looked.least w.improve.new.self.least target within before made.groups made.others made.other_targets made.found;
-            fresh = made.fresh ∙ (c.look.ensures.fresh ∙ here.invariant.fresh);
-            looks = omega (arith, made.looks, c.look.ensures.counted, here.invariant.looks);
-          })
-      | else-look w ↦
-          let closed : may network group target ≡ false = sym c.look.ensures.exact ∙ w.if-look.false in
-          rw w.self-is (record {
-            arcs = record {
-              pairs = ap length c.look.ensures.least ∙ here.invariant.arcs.pairs;
-              rows = ap length c.look.ensures.fresh ∙ here.invariant.arcs.rows;
-            };
-            offered = offered_past network source group old looked.least target within closed before;
-            fresh = c.look.ensures.fresh ∙ here.invariant.fresh;
-            looks = omega (arith, c.look.ensures.counted, here.invariant.looks);
-          })
-    ]
+    let target = get_or c.args.targets.now here.target-index 0 in
+    let within : target < options network = c.requires.targets here.target-index (omega arith) in
+    let made = c.offer_to.ensures in
+    record {
+      arcs = made.arcs;
+      offered = offered_more network source c.args.group c.args.self.now.fresh c.args.targets.now c.args.self.now.least here.self.least c.offer_to.new.self.least
+          here.target-index target refl within here.invariant.offered made.groups made.others made.other_targets
+          (λ is. made.known (subst (λ fresh. is_fresh (options network) fresh source target ≡ true) (sym here.invariant.fresh) is))
+          (λ is. made.found (subst (λ fresh. is_fresh (options network) fresh source target ≡ false) (sym here.invariant.fresh) is));
+      fresh = made.fresh ∙ here.invariant.fresh;
+      looks = omega (arith, made.looks, here.invariant.looks);
+    }
 
 pub returns : goal.returns
 returns c =
     let here = c.loop-target in
-    let all = c.options-target-end.ensures.exact in
+    let offered = here.invariant.offered in
+    let all : here.target-index ≡ length c.args.targets.now = omega arith in
     record {
       arcs = here.invariant.arcs;
-      groups = here.invariant.offered.groups;
-      others = here.invariant.offered.others;
+      groups = offered.groups;
+      others = offered.others;
+      known = offered.known;
       fresh = here.invariant.fresh;
-      looks = omega (arith, here.invariant.looks);
-      found = λ used some before k within. here.invariant.offered.found used k some before (omega arith) within;
+      looks = omega (arith, here.invariant.looks, c.requires.short);
+      found = λ used some before k within stale.
+          offered.found used k some stale (before k within stale) within (subst (λ many. IsListed c.args.targets.now many k) (sym all) (c.requires.listed k within stale));
     }

@@ -1,100 +1,100 @@
-use Rattle.std.proofs.Common.{◌≡◌, ◌≢◌, get_or, set, ◌+◌, ◌*◌, ◌<◌, ◌≤◌, ℕ, None, true, length, ap, sym, subst, ◌∙◌, arith, length-set}
+use Rattle.std.proofs.Common.{◌≡◌, ◌≢◌, ◌<◌, ◌≤◌, ◌*◌, ℕ, None, true, false, length, take, ap, sym, subst, ◌∙◌, arith}
+use Rattle.std.proofs.lemmas.List.{length-take-le}
 use Rattle.flow_planner_net.specs.Networks.{options, size}
 use Rattle.flow_planner_net.specs.States.{used_of}
-use Rattle.flow_planner_net.proofs.Tables.{used_of-is}
-use Rattle.flow_planner_repair.specs.LeastArcs.{ArcsParts, is_fresh, least_of}
-use Rattle.flow_planner_repair.proofs.ArcSteps.{IsRefreshing, refreshing_start, refreshed_more, refreshed_past, refreshed_kept, fresh-set, fresh-read}
+use Rattle.flow_planner_repair.specs.LeastArcs.{AreLeast, AreFound, KnownAreSame, OthersAreSame, AreOptions, StaleAreListed, least_of, is_fresh}
+use Rattle.flow_planner_repair.proofs.ArcSteps.{dropped_groups, refreshed_row, refreshed_kept, options-taken, listed-taken}
 use Rattle.flow_planner_repair.proofs.arcs.Arcs.refresh.Goals as goal
-use Rattle.flow_planner_repair.proofs.arcs.Arcs.refresh.Goals.{then-counts-source-gt0, else-counts-source-gt0}
 
-pub returns-then-index : goal.returns-then-index
-returns-then-index c =
-    let items : c.self.inside.fresh.items ≡ c.args.self.now.fresh = ap (λ (arcs : ArcsParts). arcs.fresh) c.self.view_is in
-    let within : c.args.source < length c.self.inside.fresh.items = omega (arith, ap length items, c.requires.arcs.rows, c.requires.source) in
-    let read = fresh-read c.self.inside.fresh.items c.args.source c.index.result.now within c.index.ensures in
-    let known : is_fresh c.args.self.now.fresh c.args.source ≡ true = sym (ap (λ fresh. is_fresh fresh c.args.source) items) ∙ (read ∙ c.if-index.true) in
+pub are_fresh-requires : goal.are_fresh-requires
+are_fresh-requires c =
+    let all = c.options-width.ensures.exact in
+    rw all (record { source = c.requires.source; marks = c.requires.arcs.marks })
+
+pub returns-then-are_fresh : goal.returns-then-are_fresh
+returns-then-are_fresh c =
+    let network = c.args.network.now in
+    let source = c.args.source in
+    let all = c.options-width.ensures.exact in
+    let right = subst (λ n. (k : ℕ) → k < n → is_fresh n c.args.self.now.fresh source k ≡ true) all (c.are_fresh.ensures c.if-are_fresh.true) in
     record {
       arcs = c.requires.arcs;
       kept = c.requires.kept;
-      found = c.requires.kept c.args.source c.requires.source known;
+      found = λ k within. c.requires.kept source k c.requires.source within (right k within);
       looks = omega arith;
     }
 
-pub loop-group-init : goal.loop-group-init
-loop-group-init c =
+pub stale_targets-stale-requires : goal.stale_targets-stale-requires
+stale_targets-stale-requires c =
+    let all = c.options-width.ensures.exact in
+    let few = c.options-width.ensures.lawful.few_options in
+    rw all (record { source = c.requires.source; marks = c.requires.arcs.marks; room = omega (arith, few, all) })
+
+pub clear-requires : goal.clear-requires
+clear-requires c =
+    let all = c.options-width.ensures.exact in
+    rw all (record { source = c.requires.source; pairs = c.requires.arcs.pairs; marks = c.requires.arcs.marks })
+
+pub find-requires : goal.find-requires
+find-requires c =
     let network = c.args.network.now in
-    let old = c.args.self.now in
-    let cleared = c.clear.new.self.least in
-    let width = c.options.ensures.exact in
-    let used = used_of (size network) c.args.counts.now in
     let source = c.args.source in
-    let refreshing : IsRefreshing network used source old.least cleared 0 =
-    refreshing_start network used source old.least cleared
-    (λ k within. subst (λ w. least_of w cleared source k ≡ None) width (c.clear.ensures.none k (omega arith)))
-    (λ o k within ne. subst (λ w. least_of w cleared o k ≡ least_of w old.least o k) width (c.clear.ensures.others o k (omega arith) ne)) in
+    let old = c.args.self.now in
+    let cleared = c.clear.new.self in
+    let made = c.clear.ensures in
+    let all = c.options-width.ensures.exact in
+    let none : (k : ℕ) → k < options network → is_fresh (options network) old.fresh source k ≡ false → least_of (options network) cleared.least source k ≡ None =
+    subst (λ n. (k : ℕ) → k < n → is_fresh n old.fresh source k ≡ false → least_of n cleared.least source k ≡ None) all made.none in
+    let known = subst (λ n. KnownAreSame n source old.fresh old.least cleared.least) all made.known in
+    let listing = c.stale_targets-stale.ensures in
+    let stale = c.stale_targets-stale.result in
+    let places = c.stale_targets-stale.new.targets in
+    let room : stale ≤ length places = omega (arith, listing.few, listing.len, c.options-width.ensures.lawful.few_options, all) in
+    let listed = subst (λ n. StaleAreListed n old.fresh source places stale) all listing.listed in
     record {
-      arcs = record {
-        pairs = rw (← width) c.clear.ensures.pairs;
-        rows = ap length c.clear.ensures.fresh ∙ c.requires.arcs.rows;
-      };
-      refreshing = refreshing;
-      fresh = c.clear.ensures.fresh;
-      looks = omega (arith, c.clear.ensures.looks);
+      source = c.requires.source;
+      targets = options-taken (options network) stale places room (subst (λ n. AreOptions n places stale) all listing.options);
+      listed = subst (λ fresh. StaleAreListed (options network) fresh source (take stale places) (length (take stale places))) (sym made.fresh)
+          (listed-taken (options network) stale old.fresh source places room listed);
+      short = omega (arith, length-take-le stale places room, listing.few, all);
+      arcs = record { pairs = subst (λ n. length cleared.least ≡ n * n) all made.pairs; marks = ap length made.fresh ∙ c.requires.arcs.marks };
+      table = c.requires.table;
+      groups = dropped_groups network (used_of (size network) c.args.counts.now) source old cleared.least c.requires.source c.requires.kept known none;
+      none = subst (λ fresh. (k : ℕ) → k < options network → is_fresh (options network) fresh source k ≡ false → least_of (options network) cleared.least source k ≡ None)
+          (sym made.fresh) none;
+      few = omega (arith, made.looks, c.requires.few);
     }
 
-pub loop-group-preserved : goal.loop-group-preserved
-loop-group-preserved c =
-    let network = c.args.network.now in
-    let old = c.args.self.now in
-    let here = c.loop-group in
-    let used = used_of (size network) c.args.counts.now in
-    let source = c.args.source in
-    let width = c.size-size.ensures.exact in
-    let read : get_or c.args.counts.now (source * c.size-size.result + here.group) 0 ≡ used source here.group =
-    rw width (sym (used_of-is (size network) c.args.counts.now source here.group)) in
-    elim c.if-counts-source-gt0.branch [
-      | then-counts-source-gt0 w ↦
-          let made = w.offer.ensures in
-          let some : 0 < used source here.group = omega (arith, w.if-counts-source-gt0.true) in
-          rw w.self-is (record {
-            arcs = made.arcs;
-            refreshing = refreshed_more network used source old.least here.self.least w.offer.new.self.least here.group some here.invariant.refreshing made.groups made.others made.found;
-            fresh = made.fresh ∙ here.invariant.fresh;
-            looks = omega (arith, made.looks, here.invariant.looks);
-          })
-      | else-counts-source-gt0 w ↦
-          let none : used source here.group ≤ 0 = omega (arith, w.if-counts-source-gt0.false) in
-          rw w.self-is (record {
-            arcs = here.invariant.arcs;
-            refreshing = refreshed_past network used source old.least here.self.least here.group none here.invariant.refreshing;
-            fresh = here.invariant.fresh;
-            looks = omega (arith, here.invariant.looks);
-          })
-    ]
+pub keep-requires : goal.keep-requires
+keep-requires c =
+    let all = c.options-width.ensures.exact in
+    rw all (record { source = c.requires.source; marks = c.find.ensures.arcs.marks })
 
 pub returns : goal.returns
 returns c =
     let network = c.args.network.now in
-    let old = c.args.self.now in
-    let here = c.loop-group in
-    let used = used_of (size network) c.args.counts.now in
     let source = c.args.source in
-    let inside = c.self-2.inside in
-    let least : inside.least.items ≡ here.self.least = ap (λ (arcs : ArcsParts). arcs.least) c.self-2.view_is in
-    let fresh : inside.fresh.items ≡ old.fresh = ap (λ (arcs : ArcsParts). arcs.fresh) c.self-2.view_is ∙ here.invariant.fresh in
-    let looks : inside.looks ≡ here.self.looks = ap (λ (arcs : ArcsParts). arcs.looks) c.self-2.view_is in
-    let all : here.group ≡ size network = omega (arith, c.size-size.ensures.exact) in
-    let done : IsRefreshing network used source old.least inside.least.items (size network) =
-    rw least (subst (λ n. IsRefreshing network used source old.least here.self.least n) all here.invariant.refreshing) in
-    let others : (o : ℕ) → o ≢ source → is_fresh (set inside.fresh.items source true) o ≡ is_fresh old.fresh o =
-    λ o ne. fresh-set inside.fresh.items source true o ne ∙ ap (λ fresh. is_fresh fresh o) fresh in
-    let many : here.group * options network ≡ size network * options network = ap (λ k. k * options network) all in
+    let used = used_of (size network) c.args.counts.now in
+    let old = c.args.self.now in
+    let cleared = c.clear.new.self.least in
+    let least = c.find.new.self.least in
+    let all = c.options-width.ensures.exact in
+    let known1 = subst (λ n. KnownAreSame n source old.fresh old.least cleared) all c.clear.ensures.known in
+    let others1 = subst (λ n. OthersAreSame n source old.least cleared) all c.clear.ensures.others in
+    let known2 = subst (λ fresh. KnownAreSame (options network) source fresh cleared least) c.clear.ensures.fresh c.find.ensures.known in
+    let found = subst (λ fresh. AreFound network used (size network) source least fresh) c.clear.ensures.fresh c.find.ensures.found in
+    let row = refreshed_row network used source old cleared least c.requires.kept c.requires.source known1 known2 found in
+    let fresh = c.find.ensures.fresh ∙ c.clear.ensures.fresh in
+    let marks : (o k : ℕ) → k < options network → o ≢ source → is_fresh (options network) c.keep.new.self.fresh o k ≡ is_fresh (options network) old.fresh o k =
+    subst (λ before. (o k : ℕ) → k < options network → o ≢ source → is_fresh (options network) c.keep.new.self.fresh o k ≡ is_fresh (options network) before o k) fresh
+    (subst (λ n. (o k : ℕ) → k < n → o ≢ source → is_fresh n c.keep.new.self.fresh o k ≡ is_fresh n c.find.new.self.fresh o k) all c.keep.ensures.others) in
+    let same = c.keep.ensures.least in
     record {
       arcs = record {
-        pairs = ap length least ∙ here.invariant.arcs.pairs;
-        rows = omega (arith, length-set inside.fresh.items source true, ap length fresh, c.requires.arcs.rows);
+        pairs = ap length same ∙ c.find.ensures.arcs.pairs;
+        marks = subst (λ n. length c.keep.new.self.fresh ≡ n * n) all c.keep.ensures.marks;
       };
-      kept = refreshed_kept network used source old inside.least.items (set inside.fresh.items source true) done c.requires.kept others;
-      found = done.found;
-      looks = omega (arith, here.invariant.looks);
+      kept = rw same (refreshed_kept network used source old cleared least c.requires.kept c.keep.new.self.fresh row others1 c.find.ensures.others marks);
+      found = subst (λ least. AreLeast network used (size network) source least) (sym same) row;
+      looks = omega (arith, c.keep.ensures.looks, c.find.ensures.looks, c.clear.ensures.looks);
     }
