@@ -1,0 +1,4 @@
+pub mod Backends
+pub mod Distinct
+pub mod DraftLaws
+pub mod Steps

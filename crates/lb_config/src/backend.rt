@@ -1,0 +1,156 @@
+ghost use Rattle.std.specs.Prelude.{◌≡◌};
+ghost use Rattle.std.specs.Str.{bytes_eq};
+ghost use Rattle.lb_config.specs.Kept.{IsServers};
+ghost use Rattle.lb_config.specs.Limits.{limit_of, queue_limit, probe_limit};
+
+use lb_config_lines::Balance;
+use lb_config_rules::BackRules;
+use lb_config_values::{ServerConfig, Timeouts};
+use lb_types::Name;
+use std::marker::Model;
+
+/// A backend: what the configuration says of its servers, its pins and its requests.
+#[derive(Debug, Drop)]
+pub struct BackendConfig {
+    pub(crate) name: Name,
+    pub(crate) balance: Balance,
+    pub(crate) all_backups: bool,
+    pub(crate) evacuate: bool,
+    pub(crate) forward_for: bool,
+    pub(crate) timeouts: Timeouts,
+    pub(crate) journal: u32,
+    pub(crate) servers: Vec<ServerConfig>,
+    pub(crate) rules: BackRules,
+}
+
+impl Model for BackendConfig {
+    ghost use Rattle.lb_config.specs.ConfigViews.{BackendView};
+
+    ghost Value = { BackendView };
+
+    ghost view = { λ backend. record {
+      name = backend.name;
+      balance = backend.balance;
+      all_backups = backend.all_backups;
+      evacuate = backend.evacuate;
+      forward_for = backend.forward_for;
+      timeouts = backend.timeouts;
+      journal = backend.journal;
+      servers = backend.servers.items;
+      rules = backend.rules;
+    } };
+
+    ghost use Rattle.lb_config.specs.Kept.{IsServers};
+
+    ghost invariant = { λ backend. IsServers backend.servers.items };
+}
+
+impl BackendConfig {
+    /// The backend's name.
+    pub fn name(&self) -> Name
+        ensures { result ≡ self.now.name }
+    {
+        self.name
+    }
+
+    /// Whether it is the backend of this name.
+    pub fn has_name(&self, name: &Name) -> bool
+        ensures { result ≡ bytes_eq self.now.name name.now }
+    {
+        self.name.as_bytes() == name.as_bytes()
+    }
+
+    /// How a server is picked for a request that wants none.
+    pub fn balance(&self) -> Balance
+        ensures { result ≡ self.now.balance }
+    {
+        self.balance
+    }
+
+    /// Whether all backups are usable together where no other server is, and not the first one alone.
+    pub fn all_backups(&self) -> bool
+        ensures { result ≡ self.now.all_backups }
+    {
+        self.all_backups
+    }
+
+    /// Whether pins are moved off servers that are no longer usable.
+    pub fn evacuate(&self) -> bool
+        ensures { result ≡ self.now.evacuate }
+    {
+        self.evacuate
+    }
+
+    /// Whether the client's address is told to the servers.
+    pub fn forward_for(&self) -> bool
+        ensures { result ≡ self.now.forward_for }
+    {
+        self.forward_for
+    }
+
+    /// How many entries its journal keeps, 1 to 1000000.
+    pub fn journal(&self) -> u32
+        ensures { result ≡ self.now.journal }
+    {
+        self.journal
+    }
+
+    /// The servers, in their order: at most 128, with distinct names.
+    pub fn servers(&self) -> &[ServerConfig]
+        ensures exact { result.now ≡ self.now.servers }
+        ensures lawful { IsServers self.now.servers }
+    {
+        &self.servers
+    }
+
+    /// The table, the key of its pins, and the rules on servers and costs.
+    pub fn rules(&self) -> &BackRules
+        ensures { result.now ≡ self.now.rules }
+    {
+        &self.rules
+    }
+
+    /// How many milliseconds a dial may take, if there is a limit.
+    pub fn connect_limit(&self) -> Option<u32>
+        ensures { result ≡ limit_of self.now.timeouts.connect }
+    {
+        limit_of(self.timeouts.connect)
+    }
+
+    /// How many milliseconds one read from a server may take, if there is a limit.
+    pub fn server_limit(&self) -> Option<u32>
+        ensures { result ≡ limit_of self.now.timeouts.server }
+    {
+        limit_of(self.timeouts.server)
+    }
+
+    /// How many milliseconds a request waits for a connection, if there is a limit. With 0 it doesn't wait.
+    pub fn queue_limit(&self) -> Option<u32>
+        ensures { result ≡ queue_limit self.now.timeouts }
+    {
+        match self.timeouts.queue {
+            Some(millis) => Some(millis),
+            None => limit_of(self.timeouts.connect),
+        }
+    }
+
+    /// How many milliseconds one whole check of the server may take, if there is a limit.
+    pub fn probe_limit(&self, server: &ServerConfig) -> Option<u32>
+        ensures { result ≡ probe_limit self.now.timeouts server.now.interval }
+    {
+        match limit_of(self.timeouts.check) {
+            Some(millis) => Some(millis),
+            None => limit_of(Some(server.interval())),
+        }
+    }
+}
+
+/// The limit of a time: none where it isn't said, or is 0.
+pub(crate) fn limit_of(time: Option<u32>) -> Option<u32>
+    ensures { result ≡ limit_of time }
+{
+    match time {
+        Some(0) => None,
+        time => time,
+    }
+}

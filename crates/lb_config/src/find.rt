@@ -1,0 +1,83 @@
+ghost use Rattle.std.specs.Prelude.{◌≡◌, position};
+ghost use Rattle.std.specs.Str.{bytes_eq};
+ghost use Rattle.lb_config.specs.Finds.{find_backend, find_server_from, number_of, server_place};
+
+use crate::{BackendConfig, Config};
+use lb_config_values::ServerConfig;
+use lb_types::{Name, ServerId};
+use thiserror::Error;
+
+/// Why a name was not found.
+#[derive(Clone, Copy, Debug, PartialEq, Eq, Error)]
+pub enum FindFault {
+    /// There is no backend of the name.
+    #[error("there is no such backend")]
+    NoBackend,
+    /// The backend has no server of the name.
+    #[error("there is no such server")]
+    NoSuchServer,
+}
+
+impl FindFault {
+    /// The number of the fault in answers to operators.
+    pub fn number(self) -> u16
+        ensures { result ≡ number_of self }
+    {
+        match self {
+            FindFault::NoBackend => 103,
+            FindFault::NoSuchServer => 10,
+        }
+    }
+}
+
+impl Config {
+    /// The place of the backend of this name, and its server. A backend that is none is told before a server that is none.
+    /// Takes no memory.
+    pub fn find(&self, backend: &Name, server: &Name) -> Result<(usize, ServerId), FindFault>
+        ensures { result ≡ find_server_from 0 self.now.backends backend.now server.now }
+    {
+        for (place, found) in self.backends().iter().enumerate() {
+            if found.has_name(backend) {
+                return match server_place(found.servers(), server) {
+                    Some(server) => Ok((place, server)),
+                    None => Err(FindFault::NoSuchServer),
+                };
+            }
+        }
+        Err(FindFault::NoBackend)
+    }
+
+    /// The place of the backend of this name. Takes no memory.
+    pub fn find_backend(&self, backend: &Name) -> Result<usize, FindFault>
+        ensures { result ≡ find_backend self.now.backends backend.now }
+    {
+        match backend_place(&self.backends, backend) {
+            Some(place) => Ok(place),
+            None => Err(FindFault::NoBackend),
+        }
+    }
+}
+
+fn backend_place(backends: &[BackendConfig], name: &Name) -> Option<usize>
+    ensures { result ≡ position (λ backend. bytes_eq backend.name name.now) backends.now }
+{
+    backends.iter().position(|backend| backend.has_name(name))
+}
+
+/// The server of the name. The configuration has at most 128.
+fn server_place(servers: &[ServerConfig], name: &Name) -> Option<ServerId>
+    ensures { result ≡ server_place servers.now name.now }
+{
+    match position_of(servers, name) {
+        Some(place) if place < ServerId::LIMIT => Some(ServerId::new(place as u8)),
+        _ => None,
+    }
+}
+
+fn position_of(servers: &[ServerConfig], name: &Name) -> Option<usize>
+    ensures { result ≡ position (λ server. bytes_eq server.name name.now) servers.now }
+{
+    servers
+        .iter()
+        .position(|server| server.name().as_bytes() == name.as_bytes())
+}

@@ -1,0 +1,22 @@
+//! The configuration as the program has it: frontends and backends, each with what its section, the `defaults` before it and the
+//! manual's defaults say.
+//!
+//! Promised: `read_config` gives the configuration that `specs/Configs` defines of the sections of a text without a fault, or the
+//! text's first fault. `Config::find` looks names up. Start at `Config`.
+#![tactic(auto)]
+
+mod backend;
+mod config;
+mod draft;
+mod find;
+mod frontend;
+mod kept;
+mod names;
+mod proxy;
+mod reading;
+
+pub use backend::BackendConfig;
+pub use config::Config;
+pub use find::FindFault;
+pub use frontend::Frontend;
+pub use reading::read_config;
