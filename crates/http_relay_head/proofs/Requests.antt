@@ -1,13 +1,13 @@
 -- Why bytes never begin with a good head, and what the spans of a head cover.
-use Rattle.std.proofs.Common.{◌≡◌, ◌⊎◌, ℕ, ◌<◌, ◌≤◌, List, [], ◌++◌, length, take, drop, map, arith, ap, sym, ◌∙◌, subst, Result, Ok, Err, inl, inr}
+use Rattle.std.proofs.Common.{◌≡◌, ℕ, ◌≤◌, List, length, take, drop, map, arith, ap, sym, ◌∙◌, subst, Result, Ok, Err, inl, inr}
 use Rattle.std.specs.declared.net.ipv4_addr.Ipv4Addr.{Ipv4Addr}
-use Rattle.httparse.specs.Grammar.{RequestHead, Field, ReadsRequest, HasNoRequest, NeverHasRequest, print_request}
+use Rattle.httparse.specs.Grammar.{RequestHead, ReadsRequest, HasNoRequest, NeverHasRequest, print_request}
 use Rattle.httparse.specs.Spans.{IsRequestAt, IsRequestOf, IsRequestWithin, span_bytes, header_bytes, name_and_value}
 use Rattle.httparse.specs.declared.spans.HeaderSpan.{HeaderSpan}
 use Rattle.httparse.specs.declared.spans.RequestSpans.{RequestSpans}
 use Rattle.httparse.proofs.GrammarLemmas.{request_prefix_free}
 use Rattle.std.proofs.lemmas.Simd.{map-map}
-use Rattle.std.proofs.lemmas.List.{length-map, length-take-le, length-take}
+use Rattle.std.proofs.lemmas.List.{length-map, length-take-le}
 use Rattle.lb_acl.specs.FieldView.{FieldView}
 use Rattle.lb_acl.specs.HeadView.{HeadView}
 use Rattle.std.specs.Io.KnownBytes.{prepend_known}
@@ -22,7 +22,7 @@ use Rattle.http_relay_head.specs.ReadHeadView.{ReadHeadView}
 use Rattle.http_relay_head.specs.declared.filling.Found.{Found}
 use Rattle.http_relay_head.specs.declared.fault.HeadFault.{HeadFault}
 use Rattle.http_relay_head.specs.declared.fault.HeadFault.TheVariants.{HeadTooLarge, BadHead, Truncated, Wire, BothLengths, Memory}
-use Rattle.http_relay_head.specs.Heads.{IsHead, BeginsWithHead, HasGoodHead, NeverHasGoodHead, Answers, HeadRead, version_of, head_of, field_of}
+use Rattle.http_relay_head.specs.Heads.{IsHead, HasGoodHead, NeverHasGoodHead, Answers, HeadRead, version_of, head_of, field_of}
 use Rattle.http_relay_head.specs.Scans.{NeverFits, Fills, Filled, Assembles, head_at, field_at}
 
 -- no head stands at the front, and there are as many bytes as one may have
@@ -40,7 +40,7 @@ over_never source text over more (kind, (head, rest, good)) = over more head res
 pub bad_never : (source : Ipv4Addr) (text : List ℕ) → NeverHasRequest text → NeverHasGoodHead source text
 bad_never source text bad more (kind, (head, rest, good)) = bad more head rest good.reads
 
--- without a head there is no good one
+-- without a head there is no good one: for callers, of a text that was cut short
 pub none_yet : (source : Ipv4Addr) (text : List ℕ) → HasNoRequest text → ¬ HasGoodHead source text
 none_yet source text none (kind, (head, rest, good)) = none head rest good.reads
 
@@ -121,8 +121,8 @@ pub unfilled : (source : Ipv4Addr) (text room : List ℕ) (headers : List Header
     → Fills text after room headers (Err fault) → Answers source text after (Err fault)
 unfilled source text room headers after HeadTooLarge fills = (over_never source text fills.0, fills.1)
 unfilled source text room headers after BadHead fills = (bad_never source text fills, inl fills)
-unfilled source text room headers after Truncated fills = (none_yet source text fills.0, fills.1)
-unfilled source text room headers after (Wire fault) fills = none_yet source text fills
+unfilled source text room headers after Truncated fills = fills
+unfilled source text room headers after (Wire fault) fills = fills
 unfilled source text room headers after BothLengths fills = absurd fills
 unfilled source text room headers after Memory fills = absurd fills
 

@@ -1,9 +1,9 @@
 -- When bytes begin with the head of a request, and what a reader of heads answers: RFC 9112, sections 2 to 5, as httparse reads
 -- them. Our own: the limits, and which heads are refused.
-use Rattle.std.specs.Prelude.{◌≡◌, ◌⊎◌, ℕ, ◌≤◌, ◌==◌, true, List, map, ◌++◌, length, Option, Some, None, Result, Ok, Err, if◌then◌else◌}
+use Rattle.std.specs.Prelude.{◌≡◌, ◌⊎◌, ℕ, ◌≤◌, ◌<◌, ◌==◌, true, List, map, ◌++◌, length, Option, Some, None, Result, Ok, Err, if◌then◌else◌}
 use Rattle.std.specs.Io.KnownBytes.{prepend_known}
 use Rattle.std.specs.declared.net.ipv4_addr.Ipv4Addr.{Ipv4Addr}
-use Rattle.httparse.specs.Grammar.{RequestHead, Field, ReadsRequest, NeverHasRequest, print_request, field_value}
+use Rattle.httparse.specs.Grammar.{RequestHead, Field, ReadsRequest, HasNoRequest, NeverHasRequest, MayBecomeRequest, print_request, field_value}
 use Rattle.httparse.specs.Spans.{RequestExceeds}
 use Rattle.lb_acl.specs.declared.head.Version.{Version}
 use Rattle.lb_acl.specs.declared.head.Version.TheVariants.{Http10, Http11}
@@ -61,6 +61,11 @@ NeverHasGoodHead source text = (more : List ℕ) → ¬ HasGoodHead source (text
 abbrev pub IsOverLimit : List ℕ → Type 0
 IsOverLimit text = (16384 ≤ length text) ⊎ RequestExceeds 100 text
 
+-- the text is less than a head: none stands at its front, good or refused, more bytes may make one (or its target is still being
+-- read), and it has fewer bytes than a head may have
+abbrev pub IsUnfinished : List ℕ → Type 0
+IsUnfinished text = HasNoRequest text × MayBecomeRequest text × (length text < 16384)
+
 -- what an answer says of the text that was read, and of the wire behind it
 abbrev pub Answers : Ipv4Addr → List ℕ → Reading → Result ReadHeadView HeadFault → Type 0
 Answers source text reading (Ok read) =
@@ -69,8 +74,8 @@ Answers source text reading (Err HeadTooLarge) = NeverHasGoodHead source text ×
 Answers source text reading (Err BadHead) =
     NeverHasGoodHead source text × (NeverHasRequest text ⊎ BeginsWithHead source (Err Refused.BadHead) text)
 Answers source text reading (Err BothLengths) = NeverHasGoodHead source text × BeginsWithHead source (Err Refused.BothLengths) text
-Answers source text reading (Err Truncated) = (¬ HasGoodHead source text) × (reading.ended ≡ true)
-Answers source text reading (Err (Wire fault)) = ¬ HasGoodHead source text
+Answers source text reading (Err Truncated) = IsUnfinished text × (reading.ended ≡ true)
+Answers source text reading (Err (Wire fault)) = IsUnfinished text
 Answers source text reading (Err Memory) = Unit {0}
 
 -- the bytes between the two moments were read, and the answer speaks of them

@@ -1,8 +1,8 @@
 -- What the steps of a reader of heads tell one another. No public clause cites this module.
-use Rattle.std.specs.Prelude.{◌≡◌, ℕ, ◌≤◌, ◌<◌, true, List, map, ◌++◌, take, drop, length, Result, Ok, Err}
+use Rattle.std.specs.Prelude.{◌≡◌, ℕ, ◌≤◌, true, List, map, ◌++◌, take, drop, length, Result, Ok, Err}
 use Rattle.std.specs.Io.KnownBytes.{prepend_known}
 use Rattle.std.specs.declared.net.ipv4_addr.Ipv4Addr.{Ipv4Addr}
-use Rattle.httparse.specs.Grammar.{RequestHead, ReadsRequest, HasNoRequest, NeverHasRequest, print_request}
+use Rattle.httparse.specs.Grammar.{RequestHead, ReadsRequest, NeverHasRequest, print_request}
 use Rattle.httparse.specs.Spans.{span_bytes, IsRequestOf, IsRequestWithin}
 use Rattle.httparse.specs.declared.spans.HeaderSpan.{HeaderSpan}
 use Rattle.httparse.specs.declared.spans.RequestSpans.{RequestSpans}
@@ -10,10 +10,9 @@ use Rattle.lb_acl.specs.FieldView.{FieldView}
 use Rattle.lb_acl.specs.HeadView.{HeadView}
 use Rattle.http_relay_wire.specs.Wires.{Reading}
 use Rattle.http_relay_forward.specs.Framing.{framing}
-use Rattle.http_relay_forward.specs.declared.framing.HeadRefusal.{HeadRefusal}
 use Rattle.http_relay_forward.specs.declared.framing.HeadRefusal.TheVariants as Refused
 use Rattle.http_relay_head.specs.ReadHeadView.{ReadHeadView}
-use Rattle.http_relay_head.specs.Heads.{version_of, IsOverLimit}
+use Rattle.http_relay_head.specs.Heads.{version_of, IsOverLimit, IsUnfinished}
 use Rattle.http_relay_head.specs.declared.fault.HeadFault.{HeadFault}
 use Rattle.http_relay_head.specs.declared.fault.HeadFault.TheVariants.{HeadTooLarge, BadHead, Truncated, Wire, BothLengths, Memory}
 use Rattle.http_relay_head.specs.declared.scanning.Scanned.{Scanned}
@@ -28,7 +27,7 @@ NeverFits text = (more : List ℕ) (head : RequestHead) (rest : List ℕ) → Re
 -- what a scan says of a text
 abbrev pub Scans : List ℕ → List HeaderSpan → Scanned → Type 0
 Scans text headers (Found.Head spans) = IsRequestOf text headers spans × IsRequestWithin text headers spans
-Scans text headers Found.Unfinished = HasNoRequest text × (length text < 16384)
+Scans text headers Found.Unfinished = IsUnfinished text
 Scans text headers Found.TooLarge = NeverFits text × IsOverLimit text
 Scans text headers Found.Bad = NeverHasRequest text
 
@@ -38,8 +37,8 @@ Fills text reading room headers (Ok found) =
     (found.filled ≤ length room) × (text ≡ take found.filled room) × IsRequestOf text headers found.spans × IsRequestWithin text headers found.spans
 Fills text reading room headers (Err HeadTooLarge) = NeverFits text × IsOverLimit text
 Fills text reading room headers (Err BadHead) = NeverHasRequest text
-Fills text reading room headers (Err Truncated) = HasNoRequest text × (reading.ended ≡ true)
-Fills text reading room headers (Err (Wire fault)) = HasNoRequest text
+Fills text reading room headers (Err Truncated) = IsUnfinished text × (reading.ended ≡ true)
+Fills text reading room headers (Err (Wire fault)) = IsUnfinished text
 Fills text reading room headers (Err BothLengths) = ⊥
 Fills text reading room headers (Err Memory) = ⊥
 

@@ -4,6 +4,10 @@ use Rattle.http_relay_wire.specs.declared.fault.WireFault.{WireFault}
 use Rattle.http_relay_wire.specs.declared.fault.WireFault.TheVariants.{Timeout, Broken}
 use Rattle.http_relay_wire.specs.declared.fault.FaultCounts.{FaultCounts}
 
+-- the counts of a wire that hasn't failed
+abbrev pub no_faults : FaultCounts
+no_faults = record { reads_timed_out = 0; reads_broken = 0; writes_timed_out = 0; writes_broken = 0 }
+
 -- one more, up to 2^64 - 1
 abbrev pub one_more : ℕ → ℕ
 one_more count = min (count + 1) (2 ^ 64 - 1)

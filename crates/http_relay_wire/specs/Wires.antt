@@ -1,6 +1,6 @@
 -- What a wire's contract says of its two directions. Our own words; bytes are told as std tells those of its readers
 -- and writers: where they are known.
-use Rattle.std.specs.Prelude.{◌≡◌, ℕ, ◌==◌, Bool, true, false, ◌&&◌, ◌||◌, nat_lt, List, [], ◌++◌, take, length, Result, Ok, Err, Option}
+use Rattle.std.specs.Prelude.{◌≡◌, ℕ, ◌==◌, Bool, false, ◌&&◌, nat_lt, List, [], ◌++◌, take, Result, Ok, Err, Option}
 use Rattle.std.specs.Io.KnownBytes.{append_known}
 use Rattle.http_relay_wire.specs.declared.fault.WireFault.{WireFault}
 

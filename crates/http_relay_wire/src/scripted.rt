@@ -1,4 +1,5 @@
 ghost use Rattle.std.specs.Prelude.{◌≡◌, ◌-◌, ◌==◌, Some, None, IfNone, IsSome, IfSome, cond, ◌≤◌, true, false, []};
+ghost use Rattle.http_relay_wire.specs.Faults.{no_faults};
 
 use crate::fault::{FaultCounts, WireFault};
 use crate::wire::Wire;
@@ -46,11 +47,12 @@ pub struct ScriptedWire<'a> {
 }
 
 impl<'a> ScriptedWire<'a> {
-    /// A wire whose peer sends `input` and then ends.
+    /// A wire whose peer sends `input` and then ends. It hasn't failed yet.
     pub fn new(alloc: Global, input: &'a [u8], script: Script<'a>) -> Self
         ensures reading { ⟦<ScriptedWire<'a> as Wire>⟧.reading result
             ≡ record { unread = Some input.now; left = script.entry.reads; ended = false } }
         ensures written { ⟦<ScriptedWire<'a> as Wire>⟧.written result ≡ Some [] }
+        ensures faults { ⟦<ScriptedWire<'a> as Wire>⟧.faults result ≡ no_faults }
     {
         ScriptedWire {
             script,

@@ -1,4 +1,5 @@
 ghost use Rattle.std.specs.Prelude.{◌≡◌, ◌≤◌, ◌^◌, None, false, IfOk, length};
+ghost use Rattle.http_relay_wire.specs.Faults.{no_faults};
 
 use crate::fault::{FaultCounts, WireFault};
 use crate::wire::Wire;
@@ -22,10 +23,11 @@ pub struct SocketWire<S> {
 }
 
 impl<S: Read + Write> SocketWire<S> {
-    /// A wire over the stream, of which nothing was read or written yet. 2^62 reads may be made.
+    /// A wire over the stream, of which nothing was read or written yet. 2^62 reads may be made. It hasn't failed yet.
     pub fn new(stream: S) -> Self
         ensures reading { ⟦<SocketWire<S> as Wire>⟧.reading result
             ≡ record { unread = None; left = 2 ^ 62; ended = false } }
+        ensures faults { ⟦<SocketWire<S> as Wire>⟧.faults result ≡ no_faults }
     {
         SocketWire {
             stream,

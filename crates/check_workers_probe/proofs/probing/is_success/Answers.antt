@@ -1,6 +1,5 @@
-use Rattle.std.proofs.Common.{arith, take, inl, inr, ◌≡◌, ◌++◌, ◌∙◌, ap, sym, length, ◌-◌}
+use Rattle.std.proofs.Common.{arith, take, inr, ◌∙◌, ap, sym, length, ◌-◌}
 use Rattle.std.proofs.lemmas.Grind.{common_steps}
-use Rattle.std.proofs.lemmas.Slice.{overwrites}
 use Rattle.std.specs.Io.KnownBytes.{prepend_known}
 use Rattle.http_relay_wire.proofs.KnownBytes.{prepend_twice}
 use Rattle.http_relay_wire.proofs.Rooms.{read_behind}
@@ -9,7 +8,7 @@ use Rattle.check_workers_probe.proofs.probing.is_success.Goals as goal
 
 pub returns-in-Failure-clause-response : goal.returns-in-Failure-clause-response
 returns-in-Failure-clause-response g c =
-    says_no _ _ _ _ _ c.loop-wire.invariant.read (not_yet _ c.in-Failure.ensures) (inr (inr c.in-Failure.ensures))
+    says_no _ _ _ _ _ c.loop-wire.invariant.read (not_yet _ c.in-Failure.ensures) (inr (inr (inr (c.in-Failure.ensures, c.loop-wire.invariant.faults))))
 
 pub loop-wire-preserved : goal.loop-wire-preserved
 loop-wire-preserved g c =

@@ -25,8 +25,7 @@ returns-in-Err-write_all-clause-copied g c =
       tells = omega (arith, size, c.in-Ok.count-test.1);
       at_end = tt;
       ended = tt;
-      whole = tt;
-      beginning = begins_later _ _ _ known.text part known.sent c.in-Err-write_all.ensures.err;
+      sent = begins_later _ _ _ known.text part known.sent c.in-Err-write_all.ensures.err;
     }
 
 pub loop-count-preserved : goal.loop-count-preserved

@@ -1,4 +1,4 @@
-use Rattle.std.proofs.Common.{arith, take, ◌≡◌, ◌++◌, ◌∙◌, ap, sym, length, ◌-◌}
+use Rattle.std.proofs.Common.{arith, take, ◌∙◌, ap, sym, length, ◌-◌}
 use Rattle.std.proofs.lemmas.Grind.{common_steps}
 use Rattle.std.specs.Io.KnownBytes.{prepend_known}
 use Rattle.http_relay_wire.proofs.KnownBytes.{prepend_twice}
