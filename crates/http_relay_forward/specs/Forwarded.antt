@@ -1,6 +1,5 @@
 -- The head that the server gets: RFC 9112, sections 3 and 5, and the HAProxy Configuration Manual 2.8, `option forwardfor`.
--- Our own: the version stays, no `Via` is added, and each line has one spelling, so that no reader can see another request
--- than the relay saw.
+-- Our own: the version stays, no `Via` is added, and each line has one spelling.
 use Rattle.std.specs.Prelude.{ℕ, Bool, true, false, List, [], ◌∷◌, ◌++◌, codes, if◌then◌else◌}
 use Rattle.std.specs.List.{filter, flat_map}
 use Rattle.std.specs.Net.Addr.{ipv4_octets}
