@@ -5,3 +5,5 @@
 
 #[cfg(test)]
 mod config_texts;
+#[cfg(test)]
+mod web_farm;

@@ -1,0 +1,282 @@
+use lb_acl::{Field, Head, KeyLen, TableType, Version, designated, pin_cost, pin_key};
+use lb_config::{BackendConfig, Config, read_config};
+use lb_config_lines::{Balance, SocketAddress};
+use lb_types::ServerId;
+use server_state::{AdminState, CheckSettings};
+use std::alloc::Global;
+use std::net::Ipv4Addr;
+use std::process::Abort;
+use std::test::Fail;
+
+/// A shop behind one balancer: pages that remember their visitors, an API, and pictures.
+const TEXT: &[u8] = b"
+global
+    stats socket /run/stickylb.sock     # where operators drain servers and ask for plans
+    tune.relays 16
+    tune.journal 200000
+
+defaults
+    mode http
+    timeout client 30s
+    timeout connect 3s
+    timeout server 30s
+    timeout queue 5s                    # how long a request waits where its server is full
+    timeout check 2s
+    balance roundrobin
+    option forwardfor
+    default-server check inter 2s rise 2 fall 3 maxconn 400
+
+frontend shop
+    bind *:80
+    bind 127.0.0.1:8080
+    acl is_api path_beg /api/
+    acl is_picture path_end -i .jpg .jpeg .png .webp
+    acl is_office src 10.20.0.0/16
+    acl is_staff_page path_beg /staff
+    use_backend closed if is_staff_page !is_office
+    use_backend api if is_api
+    use_backend pictures if is_picture { method GET HEAD }
+    default_backend pages
+
+backend pages
+    option httpchk GET /health HTTP/1.1
+    option evacuate
+    stick-table type string len 64 size 1m expire 30m
+    stick on req.cook(shop_session)
+    acl is_preview hdr(x-preview) yes
+    use-server page4 if is_preview      # the next version of the pages runs there alone
+    server page1 10.20.1.11:8080 maxpins 200000
+    server page2 10.20.1.12:8080 maxpins 200000
+    server page3 10.20.1.13:8080 maxpins 200000 weight 2
+    server page4 10.20.1.14:8080 maxpins 50000
+    server sorry 10.20.1.99:8080 backup
+
+backend api
+    balance leastconn
+    option httpchk HEAD /v2/up
+    option evacuate
+    stick-table type string len 40 size 100k expire 10m nopurge
+    stick on hdr(x-token)
+    acl is_partner src 198.51.100.0/24
+    pin-cost 20 if is_partner           # to move a partner's client is as bad as to move 20 others
+    server api1 10.20.2.11:9000
+    server api2 10.20.2.12:9000
+    server api3 10.20.2.13:9000 disabled    # waits for its disk
+
+backend pictures
+    timeout server 10s
+    server picture1 10.20.3.11:8000 maxconn 2000
+    server picture2 10.20.3.12:8000 maxconn 2000
+
+# No server: requests are answered 503.
+backend closed
+
+# Each workstation keeps its server.
+listen tools
+    bind 10.20.0.2:8081
+    stick-table type ip size 4k expire 8h
+    stick on src
+    server tools1 10.20.4.11:7000
+    server tools2 10.20.4.12:7000
+";
+
+// The places of the backends.
+const PAGES: usize = 0;
+
+const API: usize = 1;
+
+const PICTURES: usize = 2;
+
+const CLOSED: usize = 3;
+
+const TOOLS: usize = 4;
+
+const OFFICE: [u8; 4] = [10, 20, 7, 9];
+
+const ELSEWHERE: [u8; 4] = [192, 0, 2, 1];
+
+const PARTNER: [u8; 4] = [198, 51, 100, 7];
+
+fn web_farm(rt: &impl Abort, alloc: Global) -> Config {
+    match read_config(alloc, TEXT) {
+        Ok(config) => config,
+        Err(_) => panic!(rt; "a fault in the configuration"),
+    }
+}
+
+fn backend<'a>(rt: &impl Abort, config: &'a Config, place: usize) -> &'a BackendConfig {
+    match config.backends().get(place) {
+        Some(backend) => backend,
+        None => panic!(rt; "there is no backend {place}"),
+    }
+}
+
+/// A request of a client at this address.
+fn head<'a>(
+    method: &'a str,
+    target: &'a str,
+    fields: &'a [Field<'a>],
+    source: [u8; 4],
+) -> Head<'a> {
+    let [a, b, c, d] = source;
+    Head::new(
+        method.as_bytes(),
+        target.as_bytes(),
+        Version::Http11,
+        fields,
+        Ipv4Addr::new(a, b, c, d),
+    )
+}
+
+#[test]
+fn the_process(rt: HostRuntime) -> Result<(), Fail> {
+    let config = web_farm(&rt, rt.alloc());
+    assert_eq!(rt; (config.relays(), config.tries()), (16, 8));
+    assert_eq!(rt; config.warnings().len(), 0);
+    match config.socket() {
+        Some(SocketAddress::Path(path)) => {
+            assert_eq!(rt; path.as_bytes(), b"/run/stickylb.sock".as_slice());
+        }
+        _ => panic!(&rt; "no path"),
+    }
+    for backend in config.backends() {
+        assert_eq!(rt; backend.journal(), 200000);
+        assert_eq!(rt; backend.connect_limit(), Some(3000));
+        assert_eq!(rt; backend.queue_limit(), Some(5000));
+        assert!(rt; backend.forward_for() && !backend.all_backups());
+    }
+    Ok(())
+}
+
+#[test]
+fn requests_go_to_their_backends(rt: HostRuntime) -> Result<(), Fail> {
+    let config = web_farm(&rt, rt.alloc());
+    let (Some(shop), Some(tools)) = (config.frontends().first(), config.frontends().last()) else {
+        panic!(&rt; "no frontends");
+    };
+    assert_eq!(rt; (config.frontends().len(), config.backends().len()), (2, 5));
+    assert_eq!(rt; shop.rules().binds().len(), 2);
+    assert_eq!(rt; shop.client_limit(), Some(30000));
+    let cases = [
+        ("GET", "/", ELSEWHERE, PAGES),
+        ("GET", "/api/basket?x=1", ELSEWHERE, API),
+        ("POST", "/api", ELSEWHERE, PAGES),
+        ("GET", "/big.JPG?width=9", ELSEWHERE, PICTURES),
+        ("POST", "/big.jpg", ELSEWHERE, PAGES),
+        ("HEAD", "/api/a.png", ELSEWHERE, API),
+        ("GET", "/staff", ELSEWHERE, CLOSED),
+        ("GET", "/staff", OFFICE, PAGES),
+        ("GET", "/staff/a.webp", OFFICE, PICTURES),
+    ];
+    for (method, target, source, wanted) in cases {
+        let head = head(method, target, &[], source);
+        assert_eq!(rt; shop.backend_of(&head), Some(wanted), "{target}");
+        assert_eq!(rt; tools.backend_of(&head), Some(TOOLS), "{target}");
+    }
+    Ok(())
+}
+
+#[test]
+fn servers_of_the_pages(rt: HostRuntime) -> Result<(), Fail> {
+    let config = web_farm(&rt, rt.alloc());
+    let pages = backend(&rt, &config, PAGES);
+    assert_eq!(rt; pages.balance(), Balance::RoundRobin);
+    assert!(rt; pages.evacuate());
+    // Of each server what the configuration gives to pins, its weight, and whether it stands by.
+    let wanted = [
+        (200000, 1, false),
+        (200000, 1, false),
+        (200000, 2, false),
+        (50000, 1, false),
+        (1048576, 1, true),
+    ];
+    assert_eq!(rt; pages.servers().len(), wanted.len());
+    for (server, wanted) in pages.servers().iter().zip(wanted.iter()) {
+        let settings = server.settings();
+        let found = (settings.max_pins, settings.weight, settings.backup);
+        assert_eq!(rt; found, *wanted);
+        assert_eq!(rt; settings.admin, AdminState::Ready);
+        assert_eq!(rt; settings.max_connections, 400);
+        assert_eq!(rt; settings.check, Some(CheckSettings { rise: 2, fall: 3 }));
+        assert_eq!(rt;
+            (server.interval(), pages.probe_limit(server)),
+            (2000, Some(2000))
+        );
+    }
+    let Some(first) = pages.servers().first() else {
+        panic!(&rt; "no servers");
+    };
+    let request = b"GET /health HTTP/1.1\r\nHost: 10.20.1.11:8080\r\n\r\n".as_slice();
+    assert!(rt; first.check_rule(rt.alloc())?.request() == Some(request));
+    Ok(())
+}
+
+#[test]
+fn servers_of_the_others(rt: HostRuntime) -> Result<(), Fail> {
+    let config = web_farm(&rt, rt.alloc());
+    let api = backend(&rt, &config, API);
+    assert_eq!(rt; api.balance(), Balance::LeastConnections);
+    let Some(last) = api.servers().last() else {
+        panic!(&rt; "no servers");
+    };
+    assert_eq!(rt; last.settings().admin, AdminState::Maint);
+    assert_eq!(rt; last.settings().max_pins, 102400);
+    let request = b"HEAD /v2/up HTTP/1.0\r\n\r\n".as_slice();
+    assert!(rt; last.check_rule(rt.alloc())?.request() == Some(request));
+    let pictures = backend(&rt, &config, PICTURES);
+    assert_eq!(rt;
+        (api.server_limit(), pictures.server_limit()),
+        (Some(30000), Some(10000))
+    );
+    for server in pictures.servers() {
+        let settings = server.settings();
+        assert_eq!(rt; (settings.max_connections, settings.max_pins), (2000, 0));
+        assert!(rt; server.check_rule(rt.alloc())?.request().is_none());
+    }
+    assert!(rt; backend(&rt, &config, CLOSED).servers().is_empty());
+    Ok(())
+}
+
+#[test]
+fn tables_keys_and_rules(rt: HostRuntime) -> Result<(), Fail> {
+    let config = web_farm(&rt, rt.alloc());
+    let tables = [
+        (
+            PAGES,
+            TableType::Text(KeyLen::new(64)),
+            1048576,
+            1800000,
+            false,
+        ),
+        (API, TableType::Text(KeyLen::new(40)), 102400, 600000, true),
+        (TOOLS, TableType::Ip, 4096, 28800000, false),
+    ];
+    for (place, kind, size, expire, is_nopurge) in tables {
+        let Some(table) = backend(&rt, &config, place).rules().table() else {
+            panic!(&rt; "no table");
+        };
+        assert_eq!(rt; (table.kind(), table.size()), (kind, size));
+        assert_eq!(rt;
+            (table.expire(), table.is_nopurge()),
+            (Some(expire), is_nopurge)
+        );
+    }
+    assert!(rt; backend(&rt, &config, PICTURES).rules().table().is_none());
+    let fields = [
+        Field::new(b"Cookie", b"a=1; shop_session=s7"),
+        Field::new(b"X-Preview", b"no, yes"),
+    ];
+    let visit = head("GET", "/", &fields, PARTNER);
+    let rules = backend(&rt, &config, PAGES).rules();
+    let wanted = [ServerId::new(3)];
+    let servers = designated(rt.alloc(), rules.use_servers(), &visit)?;
+    assert_eq!(rt; servers.as_slice(), wanted.as_slice());
+    let Some(stick_on) = rules.stick_on() else {
+        panic!(&rt; "no key");
+    };
+    assert!(rt; pin_key(rt.alloc(), stick_on, &visit)?.is_some());
+    let costs = backend(&rt, &config, API).rules().pin_costs();
+    assert_eq!(rt; pin_cost(costs, &visit), 20);
+    assert_eq!(rt; pin_cost(costs, &head("GET", "/", &[], OFFICE)), 1);
+    Ok(())
+}
