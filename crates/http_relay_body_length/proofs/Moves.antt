@@ -59,7 +59,7 @@ answers_later : {A B : Type 0} (P : A → List ℕ → Type 0) (Q : B → List �
     → ((rest : List ℕ) → Begins P (s ++ rest) → Begins Q rest) → Answers Q t reading (Err fault) → Answers P (s ++ t) reading (Err fault)
 answers_later P Q s t reading Truncated skip x = (x.0, λ begins. x.1 (skip t begins))
 answers_later P Q s t reading BadChunk skip x = λ more begins. x more (skip (t ++ more) (subst (Begins P) (append_assoc s t more) begins))
-answers_later P Q s t reading (Client fault) skip x = tt
+answers_later P Q s t reading (Client fault) skip x = λ begins. x (skip t begins)
 answers_later P Q s t reading (Server fault) skip x = tt
 
 pub fault_later : {A B : Type 0} (P : A → List ℕ → Type 0) (Q : B → List ℕ → Type 0) (hand mid left : List ℕ) (old between new : Reading)
@@ -116,6 +116,18 @@ pub part_unsent : {A : Type 0} (P : A → List ℕ → Type 0) (hand left : List
     → Taken hand left old.unread new.unread text → AppendsBeginning before after text → Moved P hand left old new before after (Err (Server fault))
 part_unsent P hand left old new before after text fault taken beginning =
     record { text = text; taken = taken; answers = tt; sent = tt; beginning = beginning }
+
+-- in nothing there is none of some bytes
+nothing_some : (most : ℕ) → ¬ Begins (IsSome most) []
+nothing_some most (count, front, rest, (size, some, within), parted) =
+    let sizes = ap length parted ∙ length-append front rest in
+    absurd (omega (arith, size, some, sizes))
+
+-- the client failed before the first of some bytes
+pub none_came : (most : ℕ) (hand left : List ℕ) (old new : Reading) (written : Option (List ℕ)) (fault : WireFault)
+    → Taken hand left old.unread new.unread [] → Moved (IsSome most) hand left old new written written (Err (Client fault))
+none_came most hand left old new written fault taken =
+    record { text = []; taken = taken; answers = nothing_some most; sent = tt; beginning = begins_with_nothing written [] }
 
 -- a later part was sent, and makes the whole
 pub part_later : {A B : Type 0} (P : A → List ℕ → Type 0) (Q : B → List ℕ → Type 0) (hand mid left : List ℕ) (old between new : Reading)

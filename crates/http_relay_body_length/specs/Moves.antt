@@ -23,12 +23,13 @@ Begins {A} IsPart text = (value : A) × (front : List ℕ) × (rest : List ℕ) 
 abbrev pub NeverBegins : {A : Type 0} → (A → List ℕ → Type 0) → List ℕ → Type 0
 NeverBegins IsPart text = (more : List ℕ) → ¬ Begins IsPart (text ++ more)
 
--- what an answer says of the text that was taken, and of the wire behind it
+-- What an answer says of the text that was taken, and of the wire behind it. The client is at fault only where no part stood there
+-- yet: behind a part nothing is waited for.
 abbrev pub Answers : {A : Type 0} → (A → List ℕ → Type 0) → List ℕ → Reading → Result A BodyFault → Type 0
 Answers IsPart text reading (Ok value) = IsPart value text
 Answers IsPart text reading (Err Truncated) = (reading.ended ≡ true) × ¬ Begins IsPart text
 Answers IsPart text reading (Err BadChunk) = NeverBegins IsPart text
-Answers IsPart text reading (Err (Client fault)) = Unit {0}
+Answers IsPart text reading (Err (Client fault)) = ¬ Begins IsPart text
 Answers IsPart text reading (Err (Server fault)) = Unit {0}
 
 -- a part was taken, or the answer says why not
