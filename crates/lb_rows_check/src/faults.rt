@@ -27,6 +27,7 @@ fn parameters_of_servers(rt: HostRuntime) -> Result<(), Fail> {
         ("server a localhost:1 backup", ""),
         ("server a localhost:1 disabled", ""),
         ("server a localhost:1 inter 0", ""),
+        ("server a localhost:1 inter 2147483647", ""),
         ("server a localhost:1 inter x", "24 BadNumber"),
         ("server a localhost:1 rise 1000 fall 1", ""),
         ("server a localhost:1 rise 1001", "24 BadNumber"),
@@ -34,6 +35,7 @@ fn parameters_of_servers(rt: HostRuntime) -> Result<(), Fail> {
         ("server a localhost:1 weight 256", ""),
         ("server a localhost:1 weight 50%", "24 BadNumber"),
         ("server a localhost:1 maxconn 4294967295", ""),
+        ("server a localhost:1 maxconn 0 maxpins 0", ""),
         ("server a localhost:1 maxconn", "23 Missing"),
         ("server a localhost:1 maxpins 16777216", ""),
         ("server a localhost:1 maxpins -1", "24 BadNumber"),
@@ -74,6 +76,7 @@ fn addresses(rt: HostRuntime) -> Result<(), Fail> {
 fn criteria_and_conditions(rt: HostRuntime) -> Result<(), Fail> {
     let cases = [
         ("acl a src 10.0.0.0/8 192.168.0.1", ""),
+        ("acl a src 10.0.0.1/32 0.0.0.0/0", ""),
         ("acl a src 10.0.0.0/33", "24 BadNumber"),
         ("acl a path /", ""),
         ("acl a path_beg /a /b", ""),
@@ -95,6 +98,7 @@ fn criteria_and_conditions(rt: HostRuntime) -> Result<(), Fail> {
         ("use_backend b if }", "25 BadName"),
         ("use_backend b if TRUE", "27 NoSuchName"),
         ("use_backend b when { path / }", "22 UnknownWord"),
+        ("pin-cost 1 if { path / }", ""),
         ("pin-cost 1001 if { path / }", "24 BadNumber"),
     ];
     expect_lines(&rt, rt.alloc(), &cases)
@@ -110,9 +114,14 @@ fn balances_tables_and_keys(rt: HostRuntime) -> Result<(), Fail> {
         ("balance static-rr", "29 LeftOut static-rr"),
         ("balance", "23 Missing"),
         ("stick-table size 1 type ip", ""),
+        ("stick-table type string len 1 size 1", ""),
         ("stick-table type string len 1024 size 16m", ""),
         ("stick-table type string len 0 size 1", "24 BadNumber"),
         ("stick-table type ip size 17m", "24 BadNumber"),
+        (
+            "stick-table type ip size 1 expire 2147483648",
+            "24 BadNumber",
+        ),
         ("stick-table type ip size 1K", "24 BadNumber"),
         ("stick-table type integer size 1", "29 LeftOut integer"),
         ("stick-table type ip size 1 store gpc0", "29 LeftOut store"),

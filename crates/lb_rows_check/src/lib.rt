@@ -13,3 +13,5 @@ mod limits;
 mod reports;
 #[cfg(test)]
 mod spellings;
+#[cfg(test)]
+mod web_farm;

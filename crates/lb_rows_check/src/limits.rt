@@ -50,6 +50,14 @@ fn as_many_as_there_may_be_and_one_more(rt: HostRuntime) -> Result<(), Fail> {
             " }",
             "line 258: 28 TooMany\n",
         ),
+        // ACLs between braces don't count.
+        (
+            256,
+            "listen web\n",
+            "use_backend web if { path / } or { path /",
+            " }",
+            "line 258: 28 TooMany\n",
+        ),
     ];
     for (limit, section, before, behind, fault) in cases {
         let mut text = String::from_str(rt.alloc(), section)?;

@@ -76,6 +76,7 @@ fn each_kind_of_fault_has_its_name(rt: HostRuntime) -> Result<(), Fail> {
     let rows = [
         ("server a 127.0.0.1:1", "line 1: 21 UnknownSection\n"),
         ("global\nbalance first", "line 2: 22 UnknownWord\n"),
+        ("global\ntune.journal 0", "line 2: 24 BadNumber\n"),
         ("global\nstats socket", "line 2: 23 Missing\n"),
         ("global\ntune.tries 1001", "line 2: 24 BadNumber\n"),
         ("backend a/b", "line 1: 25 BadName\n"),
