@@ -1,5 +1,9 @@
 ghost use Rattle.std.specs.Prelude.{◌≡◌, ◌≤◌, IfOk, sum_by};
 ghost use Rattle.dual_cert_plan.specs.Plans.{servers_of, group_of, groups_of};
+ghost use Rattle.std.specs.Cmp.{partial_equiv_from_equiv};
+ghost use Rattle.std.specs.Cmp.Rules.{comparing};
+ghost use Rattle.std.proofs.Common.{rules};
+ghost use Rattle.dual_cert_plan.specs.Equality.{equal_plans};
 
 use crate::{PricedServer, Server, Sheet};
 use lb_types_pins::{Group, Row};
@@ -78,6 +82,20 @@ impl Plan {
         let groups = groups_of(alloc, &self.rows)?;
         Ok(Sheet::new(self.version, servers, groups))
     }
+}
+
+impl PartialEq for Plan {
+    ghost eq = { equal_plans };
+
+    ghost laws = { partial_equiv_from_equiv (Prim.search (comparing, rules) depth 12) };
+
+    fn eq(&self, other: &Plan) -> bool {
+        self.version == other.version && self.servers == other.servers && self.rows == other.rows
+    }
+}
+
+impl Eq for Plan {
+    ghost laws = { Prim.search (comparing, rules) depth 12 };
 }
 
 fn servers_of(alloc: Global, servers: &[PricedServer]) -> Result<Vec<Server>, AllocError>

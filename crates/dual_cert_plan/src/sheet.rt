@@ -1,3 +1,8 @@
+ghost use Rattle.std.specs.Cmp.{partial_equiv_from_equiv};
+ghost use Rattle.std.specs.Cmp.Rules.{comparing};
+ghost use Rattle.std.proofs.Common.{rules};
+ghost use Rattle.dual_cert_plan.specs.Equality.{equal_sheets};
+
 use crate::Server;
 use lb_types_pins::Group;
 use std::marker::Model;
@@ -61,4 +66,20 @@ impl Sheet {
     {
         &self.groups
     }
+}
+
+impl PartialEq for Sheet {
+    ghost eq = { equal_sheets };
+
+    ghost laws = { partial_equiv_from_equiv (Prim.search (comparing, rules) depth 12) };
+
+    fn eq(&self, other: &Sheet) -> bool {
+        self.version == other.version
+            && self.servers == other.servers
+            && self.groups == other.groups
+    }
+}
+
+impl Eq for Sheet {
+    ghost laws = { Prim.search (comparing, rules) depth 12 };
 }

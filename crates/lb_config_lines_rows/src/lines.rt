@@ -167,6 +167,7 @@ fn keywords_of_requests_in_each_section(rt: HostRuntime) -> Result<(), Fail> {
 fn keywords_of_servers_in_each_section(rt: HostRuntime) -> Result<(), Fail> {
     let cases = [
         ("balance leastconn", b"-+-++", "balance uri", "29 uri"),
+        ("balance first", b"-+-++", "balance source", "29 source"),
         (
             "stick-table type ip size 1m",
             b"---++",
@@ -308,6 +309,18 @@ fn other_words_in_every_section(rt: HostRuntime) -> Result<(), Fail> {
         ("frontend f", "header"),
         ("backend b", "header"),
         ("listen l", "header"),
+    ];
+    expect_everywhere(&rt, rt.alloc(), &cases)
+}
+
+#[test]
+fn headers_in_every_section(rt: HostRuntime) -> Result<(), Fail> {
+    let cases = [
+        ("global x", "22"),
+        ("defaults d x", "22"),
+        ("frontend", "23"),
+        ("backend a/b", "25"),
+        ("listen a b", "22"),
     ];
     expect_everywhere(&rt, rt.alloc(), &cases)
 }

@@ -96,3 +96,34 @@ impl Backend {
         &self.servers
     }
 }
+
+impl PartialEq for Backend {
+    ghost use Rattle.std.specs.Cmp.{partial_equiv_from_equiv};
+    ghost use Rattle.std.specs.Cmp.Rules.{comparing};
+    ghost use Rattle.std.proofs.Common.{rules};
+    ghost use Rattle.lb_desk_model.specs.contracts.balance.BalanceEq.TheImpl.Laws as balance_laws;
+    ghost use Rattle.lb_desk_model.specs.contracts.backend.TableSettingsEq.TheImpl.Laws as table_laws;
+    ghost use Rattle.lb_desk_model.specs.contracts.backend.BackendServerEq.TheImpl.Laws as server_laws;
+    ghost use Rattle.lb_desk_model.specs.Equality.{equal_backends};
+
+    ghost eq = { equal_backends };
+
+    ghost laws = { partial_equiv_from_equiv (Prim.search (comparing, balance_laws.laws-law, table_laws.laws-law, server_laws.laws-law, rules) depth 12) };
+
+    fn eq(&self, other: &Backend) -> bool {
+        self.balance == other.balance
+            && self.all_backups == other.all_backups
+            && self.table == other.table
+            && self.servers == other.servers
+    }
+}
+
+impl Eq for Backend {
+    ghost use Rattle.std.specs.Cmp.Rules.{comparing};
+    ghost use Rattle.std.proofs.Common.{rules};
+    ghost use Rattle.lb_desk_model.specs.contracts.balance.BalanceEq.TheImpl.Laws as balance_laws;
+    ghost use Rattle.lb_desk_model.specs.contracts.backend.TableSettingsEq.TheImpl.Laws as table_laws;
+    ghost use Rattle.lb_desk_model.specs.contracts.backend.BackendServerEq.TheImpl.Laws as server_laws;
+
+    ghost laws = { Prim.search (comparing, balance_laws.laws-law, table_laws.laws-law, server_laws.laws-law, rules) depth 12 };
+}

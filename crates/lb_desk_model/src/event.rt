@@ -7,7 +7,7 @@ use pin_set::PinKey;
 use server_state::Change;
 
 /// What a request asks of its backend.
-#[derive(Debug, Drop)]
+#[derive(Debug, Drop, PartialEq, Eq)]
 pub struct Request {
     /// What the backend's `stick on` pattern found, if it found something.
     pub key: Option<PinKey>,
@@ -22,7 +22,7 @@ pub struct Request {
 }
 
 /// What a backend is asked for. Each is one step of its machine.
-#[derive(Debug, Drop)]
+#[derive(Debug, Drop, PartialEq, Eq)]
 pub enum Event {
     /// A server for a request.
     Serve(Request),

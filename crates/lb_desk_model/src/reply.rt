@@ -64,7 +64,7 @@ impl Refusal {
 }
 
 /// What a backend answers to an event.
-#[derive(Debug, Drop)]
+#[derive(Debug, Drop, PartialEq, Eq)]
 pub enum Reply {
     /// The request's server.
     Served(ServerId, ServedAs),

@@ -1,3 +1,7 @@
+ghost use Rattle.std.specs.Prelude.{nat_eq};
+ghost use Rattle.std.specs.Cmp.Lexicographic.{pointwise, nat_list_eq_equiv};
+ghost use Rattle.std.specs.Cmp.{partial_equiv_from_equiv};
+
 use lb_types::ServerId;
 use std::marker::Model;
 
@@ -31,4 +35,18 @@ impl RuleList {
     {
         &self.servers
     }
+}
+
+impl PartialEq for RuleList {
+    ghost eq = { pointwise nat_eq };
+
+    ghost laws = { partial_equiv_from_equiv nat_list_eq_equiv };
+
+    fn eq(&self, other: &RuleList) -> bool {
+        self.servers == other.servers
+    }
+}
+
+impl Eq for RuleList {
+    ghost laws = { nat_list_eq_equiv };
 }

@@ -3,6 +3,7 @@ use crate::{
     TableSettings,
 };
 use cert_check::CheckFault;
+use dual_cert_plan::Plan;
 use lb_types::{Moment, Name, ServerId};
 use pin_set::{KeyText, PinKey};
 use server_state::{AdminState, ServerSettings};
@@ -74,5 +75,33 @@ fn an_entry_keeps_its_event_and_its_reply(rt: HostRuntime) -> Result<(), Fail> {
     assert_eq!(rt; request.cost, 20);
     assert_eq!(rt; *server, b);
     assert_eq!(rt; *how, ServedAs::Made);
+    Ok(())
+}
+
+#[test]
+fn events_are_equal_where_they_say_the_same(rt: HostRuntime) -> Result<(), Fail> {
+    let [a, b] = [ServerId::new(0), ServerId::new(1)];
+    assert!(rt; Event::Open(a) == Event::Open(a));
+    assert!(rt; Event::Open(a) != Event::Open(b));
+    assert!(rt; Event::Open(a) != Event::Close(a));
+    let first = Event::Install(Plan::new(1, Vec::new(rt.alloc()), Vec::new(rt.alloc())));
+    let same = Event::Install(Plan::new(1, Vec::new(rt.alloc()), Vec::new(rt.alloc())));
+    let later = Event::Install(Plan::new(2, Vec::new(rt.alloc()), Vec::new(rt.alloc())));
+    assert!(rt; first == same);
+    assert!(rt; first != later);
+    let asked = Event::Serve(Request {
+        key: None,
+        rules: RuleList::new(vec![in rt.alloc(); b, a]?),
+        cost: 20,
+        moment: Moment::from_millis(7),
+    });
+    let turned = Event::Serve(Request {
+        key: None,
+        rules: RuleList::new(vec![in rt.alloc(); a, b]?),
+        cost: 20,
+        moment: Moment::from_millis(7),
+    });
+    assert!(rt; asked == asked);
+    assert!(rt; asked != turned);
     Ok(())
 }
