@@ -94,6 +94,7 @@ fn a_plan_brings_a_pin_back_from_a_backup(rt: HostRuntime) -> Result<(), Fail> {
         (serve(1, "k1"), Said::Served(B, ServedAs::Moved)),
         (Ask::Set(A, Setting::Health(true)), Said::Done),
         (serve(2, "k1"), Said::Served(B, ServedAs::Kept)),
+        (Ask::Snapshot, Said::Sheet(4, 1)),
         (Ask::Install(plan), installed(1, 0, 1)),
         (serve(3, "k1"), KEPT_A),
     ];
@@ -118,6 +119,7 @@ fn a_plan_empties_a_server_that_drains(rt: HostRuntime) -> Result<(), Fail> {
         (serve(3, "k4"), MADE_A),
         (DRAIN_A, Said::Done),
         (serve(4, "k1"), KEPT_A),
+        (Ask::Snapshot, Said::Sheet(5, 4)),
         (Ask::Install(plan), installed(4, 0, 2)),
     ];
     let mut machine = sketch.machine(rt.alloc())?;
@@ -181,6 +183,7 @@ fn the_cheaper_pin_is_moved(rt: HostRuntime) -> Result<(), Fail> {
         (serve(1, "k2"), MADE_B),
         (serve(2, "k3"), MADE_A),
         (Ask::Set(A, Setting::MaxPins(1)), Said::Done),
+        (Ask::Snapshot, Said::Sheet(4, 3)),
         (Ask::Install(plan), Said::Installed(score)),
         (serve(3, "k1"), KEPT_A),
         (serve(4, "k3"), Said::Served(B, ServedAs::Kept)),

@@ -1,8 +1,9 @@
 //! Connections, checks, commands, and pins that expire.
 
-use crate::asked::{A, Ask, Said, compare_pins, in_short, play, serve};
+use crate::asked::{A, Ask, B, Said, compare_pins, in_short, play, serve};
 use crate::backends::two;
 use lb_desk_model::{Event, Refusal, ServedAs};
+use pin_set::PinKey;
 use rise_fall::Flip;
 use server_state::{AdminState, CheckSettings, Checked, Setting};
 use std::test::Fail;
@@ -40,7 +41,7 @@ fn three_failures_in_a_row_take_a_server_down(rt: HostRuntime) -> Result<(), Fai
     Ok(())
 }
 
-// What stands last in a list of events and replies is what the last events were answered.
+// What stands last in a list of events and replies: their numbers, what the last events asked, and what they were answered.
 #[test]
 fn the_last_two_of_three_requests(rt: HostRuntime) -> Result<(), Fail> {
     let asked = [serve(0, "k1"), serve(1, "k2"), serve(2, "k1")];
@@ -50,14 +51,26 @@ fn the_last_two_of_three_requests(rt: HostRuntime) -> Result<(), Fail> {
     }
     let mut machine = two().machine(rt.alloc())?;
     let replies = machine.run(rt.alloc(), &events)?;
+    assert_eq!(rt; replies.len(), 3);
     let wanted = [
-        Said::Served(1, ServedAs::Made),
-        Said::Served(0, ServedAs::Kept),
+        (1usize, "k2", Said::Served(B, ServedAs::Made)),
+        (2usize, "k1", Said::Served(A, ServedAs::Kept)),
     ];
-    for (reply, wanted) in replies.iter().skip(1).zip(&wanted) {
-        assert_eq!(rt; in_short(reply), *wanted);
+    for (at, key, said) in wanted {
+        assert!(rt; events.get(at).is_some_and(|event| has_key(event, key)));
+        assert_eq!(rt; replies.get(at).map(|reply| in_short(reply)), Some(said));
     }
     Ok(())
+}
+
+fn has_key(event: &Event, wanted: &str) -> bool {
+    match event {
+        Event::Serve(request) => match &request.key {
+            Some(PinKey::Text(text)) => text.as_bytes() == wanted.as_bytes(),
+            _ => false,
+        },
+        _ => false,
+    }
 }
 
 #[test]
