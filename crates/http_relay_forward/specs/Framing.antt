@@ -1,7 +1,8 @@
 -- How the end of a request's body is told, and which heads are refused because two readers could see it at different places:
 -- RFC 9112, sections 6.1 to 6.3 and 7. Our own, and stricter: a request of HTTP/1.0 has no coding, the one coding is `chunked`, a length
 -- has at most 18 digits, a length beside a coding is refused, and so are `CONNECT` and a `Connection` that names `Host`,
--- `Content-Length` or `Transfer-Encoding`. Fields that repeat an equal length pass.
+-- `Content-Length` or `Transfer-Encoding`. Laxer than RFC 9110, section 8.6: lengths that are equal as numbers all pass, each on its line as it
+-- came.
 use Rattle.std.specs.Prelude.{ℕ, Bool, true, false, ◌==◌, ◌&&◌, ◌||◌, not, nat_lt, List, length, codes, bytes_eq, count_by, Option, Some, None, Result, Ok, Err, if◌then◌else◌}
 use Rattle.std.specs.List.{list_any, list_all, find}
 use Rattle.std.specs.Option.{option_map_or, option_and_then, is_none}

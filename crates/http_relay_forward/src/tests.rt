@@ -96,6 +96,23 @@ fn bodies_are_told_by_their_fields(rt: HostRuntime) {
 }
 
 #[test]
+fn equal_lengths_go_out_as_they_came(rt: HostRuntime) -> Result<(), Fail> {
+    let fields = [
+        Field::new(b"Content-Length", b"003"),
+        Field::new(b"content-length", b" 3"),
+    ];
+    let head = Head::new(b"PUT", b"/", Version::Http11, &fields, client());
+    assert_eq!(rt; body_kind(&head), Ok(BodyKind::Length(3)));
+    let sent =
+        b"PUT / HTTP/1.1\r\nContent-Length: 003\r\ncontent-length: 3\r\nConnection: close\r\n\r\n";
+    assert_eq!(rt;
+        rewrite(rt.alloc(), &head, false)?.as_slice(),
+        sent.as_slice()
+    );
+    Ok(())
+}
+
+#[test]
 fn own_answers_have_their_texts(rt: HostRuntime) {
     let cases = [
         (

@@ -1,4 +1,4 @@
--- Names of servers, backends and the like: HAProxy Configuration Manual 2.8, section 2.1 ("allowed characters"),
+-- Names of servers, backends and the like: HAProxy Configuration Manual 2.8, section 4 (names of proxies),
 -- with a length of at most 64 bytes. The name `-` is left out: it is the word for "no server" in plans.
 use Rattle.std.specs.Prelude.{ℕ, Bool, true, false, ◌==◌, ◌&&◌, ◌||◌, not, nat_lt, nat_le, List, [], ◌∷◌, length, Result, Ok, Err, if◌then◌else◌, bytes_eq, codes}
 use Rattle.std.specs.List.{list_all}
