@@ -46,7 +46,7 @@ fn commands<'a>(alloc: Global) -> Result<Command<'a>, AllocError>
     ensures { IfOk result (λ c. app_of c ≡ commands_app) }
 {
     Command::new(alloc, "stickylb")
-        .about("An HTTP/1 load balancer with stick tables, whose every promise is proved")
+        .about("Plans the moves of a stick table's pins, checks plans, and reads configurations")
         .arg_required_else_help(true)
         .subcommand_required(true)
         .disable_help_subcommand(true)

@@ -1,11 +1,11 @@
 -- What one more result does to a health that stands for a list of results.
-use Rattle.std.proofs.Common.{◌≡◌, ℕ, zero, suc, ◌+◌, ◌-◌, ◌<◌, ◌≤◌, Bool, true, false, not, cond, leb, List, [], ◌∷◌, ◌++◌, refl, sym, ap, ◌∙◌, inl, inr, arith}
+use Rattle.std.proofs.Common.{◌≡◌, ℕ, zero, suc, ◌+◌, ◌-◌, ◌<◌, ◌≤◌, Bool, true, false, not, cond, leb, List, [], ◌∷◌, ◌++◌, refl, sym, ap, ◌∙◌, inl, inr, arith, add-one}
 use Rattle.std.specs.Bool.{beq}
 use Rattle.std.specs.Prelude.{reverse, replicate}
 use Rattle.std.specs.List.{prefix_len}
 use Rattle.std.proofs.lemmas.Bool.Decides.{leb_tells}
 use Rattle.std.proofs.lemmas.List.{append_assoc, append-nil, reverse-append}
-use Rattle.rise_fall.specs.Tally.{Tally, needed}
+use Rattle.rise_fall.specs.Tally.{Tally, IsTally, needed}
 use Rattle.rise_fall.specs.Health.{Base, fresh, forced_up, forced_down, forced, before, is_up, ends_up, tally_after, StandsFor}
 use Rattle.rise_fall.proofs.Runs.{ends_up-push}
 
@@ -158,6 +158,20 @@ StandsFor-turned rise fall up against r f base results pr pf long stands =
     let whole = before r f base ++ results in
     let parts = stands-parts _ r f base results stands in
     stands-counted _ r f base results (not up) parts.same_rise parts.same_fall (turned r f up against whole (omega (arith, parts.same_rise)) (omega (arith, parts.same_fall)) (rw (← parts.same_rise, ← parts.same_fall) long) (parts.up, parts.against))
+
+-- too few results of the other kind, behind a base that is forced
+few_against : (rise fall : ℕ) (up : Bool) (against : ℕ) → 1 ≤ rise → 1 ≤ fall → against < needed rise fall up → (results : List Bool) × StandsFor (record { rise = rise; fall = fall; up = up; against = against }) rise fall (forced up) results
+few_against rise fall up zero r f short = ([], StandsFor-forced rise fall up r f)
+few_against rise fall up (suc k) r f short =
+    let fewer = few_against rise fall up k r f (omega (arith, short)) in
+    let more = StandsFor-disagreed rise fall up k rise fall (forced up) fewer.0 r f (omega (arith, short)) fewer.1 in
+    (fewer.0 ++ not up ∷ [], rw add-one at more)
+
+-- each health stands for some base and results
+pub StandsFor-some : (health : Tally) → IsTally health.rise health.fall health.up health.against → (base : Base) × (results : List Bool) × StandsFor health health.rise health.fall base results
+StandsFor-some health kept =
+    let few = few_against health.rise health.fall health.up health.against kept.rise_from kept.fall_from kept.short in
+    (forced health.up, few.0, few.1)
 
 pub same-beq : (a b : Bool) → beq a b ≡ true → a ≡ b
 same-beq true true e = refl

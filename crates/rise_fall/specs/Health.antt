@@ -60,7 +60,8 @@ flip_between false true = WentUp
 flip_between true false = WentDown
 
 -- what a health shows that took these results since this base: its settings, how it counts, and the run of other
--- results at the end
+-- results at the end. That run is the code's own: it is here so that a health is the same value wherever it stands for
+-- the same base and results, and no promise of when a server is up rests on it, since those speak of `is_up` alone
 abbrev pub tally_after : ℕ → ℕ → Base → List Bool → Tally
 tally_after rise fall base results = record {
   rise = rise;
@@ -69,6 +70,7 @@ tally_after rise fall base results = record {
   against = prefix_len (beq (not (is_up rise fall base results))) (reverse (before rise fall base ++ results));
 }
 
--- the health is that of a server with these settings that had these results since this base
+-- the health is that of a server with these settings that had these results since this base. Each health stands for
+-- some base and results: `each_health_has_its_results`
 abbrev pub StandsFor : Tally → ℕ → ℕ → Base → List Bool → Type 0
 StandsFor health rise fall base results = health ≡ tally_after rise fall base results

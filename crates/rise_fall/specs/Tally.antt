@@ -1,12 +1,13 @@
 -- What a `Health` shows: its settings, how the server counts, and how much speaks against that.
 use Rattle.std.specs.Prelude.{ℕ, Bool, ◌≤◌, ◌<◌, if◌then◌else◌}
 
+-- a health as a value
 pub record Tally : Type 0 where
   pub rise : ℕ
   pub fall : ℕ
   -- the server counts as up
   pub up : Bool
-  -- how many results in a row, up to the last one, say the other thing
+  -- how many results in a row, up to the last one, say the other thing. The code's own count
   pub against : ℕ
 
 -- how many results in a row turn a server that counts so

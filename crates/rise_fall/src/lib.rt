@@ -6,9 +6,11 @@
 
 mod flip;
 mod health;
+mod laws;
 
 pub use flip::Flip;
 pub use health::Health;
+pub use laws::each_health_has_its_results;
 
 #[cfg(test)]
 mod tests;

@@ -42,14 +42,10 @@ Checks-err xs all_backups i found new (Err e) read err = ap (λ l. farm_of l all
 pub Checks-at : (xs : List ServerView) (all_backups : Bool) (i server : ℕ) (found new : ServerView) (result : Result Checked ChangeFault) (ok : Bool) → i ≡ server → i < length xs → found ≡ get_or xs i found → TakesResult found new result ok → Checks (farm_of xs all_backups) (farm_of (slice_set xs i new) all_backups) result server ok
 Checks-at xs all_backups i server found new result ok same h read takes =
     let at = found-at xs i found h read in
-    let one : (other : ServerView) → slice_get xs i ≡ Some other → found ≡ other = λ other there. cc in
     rw (← same) (record {
       fault = rw at takes.fault;
-      ignored = λ other there maint checked.
-          let told = takes.ignored (rw (one other there) maint) (rw (one other there) checked) in
-          (told.0, ap (λ l. farm_of l all_backups) (unchanged xs i found new read told.1));
-      taken = λ other rise fall base results there serving stands.
-          let told = takes.taken rise fall base results (rw (one other there) serving) (rw (one other there) stands) in
-          (told.0, rw (← one other there) (ap (λ s. farm_of (slice_set xs i s) all_backups) told.1));
+      found = λ before there.
+          let one : found ≡ before = cc in
+          (new, rw one at takes, refl);
       err = Checks-err xs all_backups i found new result read takes.err;
     })

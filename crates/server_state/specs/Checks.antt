@@ -38,14 +38,10 @@ pub record TakesResult (old new : ServerView) (result : Result Checked ChangeFau
       → (result ≡ Ok (flip_of rise fall base results ok)) × (new ≡ with_result old rise fall base results ok)
   pub err : OnErr result (new ≡ old)
 
--- the same at one server of a farm, where the others stay
+-- a result is refused exactly where it has a fault, and then changes nothing; the server that it is for takes it, and
+-- the others stay
 pub record Checks (old new : FarmView) (result : Result Checked ChangeFault) (server : ℕ) (ok : Bool) : Type 0 where
   pub fault : result_err result ≡ check_fault old server
-  pub ignored : (found : ServerView) → slice_get old.servers server ≡ Some found
-      → is_maint found.admin ≡ true → is_some found.health ≡ true → (result ≡ Ok Ignored) × (new ≡ old)
-  pub taken : (found : ServerView) (rise fall : ℕ) (base : Base) (results : List Bool)
-      → slice_get old.servers server ≡ Some found
-      → is_maint found.admin ≡ false → found.health ≡ Some (tally_after rise fall base results)
-      → (result ≡ Ok (flip_of rise fall base results ok))
-      × (new ≡ with_server_as old server (with_result found rise fall base results ok))
+  pub found : (before : ServerView) → slice_get old.servers server ≡ Some before
+      → (after : ServerView) × TakesResult before after result ok × (new ≡ with_server_as old server after)
   pub err : OnErr result (new ≡ old)

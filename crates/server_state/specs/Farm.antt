@@ -8,6 +8,7 @@ use Rattle.lb_types.specs.Servers.{with_server}
 use Rattle.server_state.specs.Server.{ServerView, serves, is_main, is_spare, server_at_start}
 use Rattle.server_state.specs.declared.settings.ServerSettings.{ServerSettings}
 
+-- a farm as it is seen: its servers, and whether all backups are usable together
 pub record FarmView : Type 0 where
   pub servers : List ServerView
   pub all_backups : Bool
@@ -16,7 +17,7 @@ pub record FarmView : Type 0 where
 abbrev pub serving : FarmView → ℕ → Bool
 serving farm server = option_map_or serves (slice_get farm.servers server) false
 
--- what is set for a server, and 0 where there is no such server
+-- a server's weight. Of this and the two that follow: 0 where there is no such server
 abbrev pub weight_of : FarmView → ℕ → ℕ
 weight_of farm server = option_map_or (λ found. found.weight) (slice_get farm.servers server) 0
 
@@ -40,6 +41,7 @@ main_servers servers = numbers_where is_main servers
 abbrev pub spare_servers : List ServerView → List ℕ
 spare_servers servers = numbers_where is_spare servers
 
+-- there is no server in the list
 abbrev pub is_empty : List ℕ → Bool
 is_empty [] = true
 is_empty (x ∷ xs) = false

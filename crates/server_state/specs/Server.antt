@@ -9,6 +9,7 @@ use Rattle.server_state.specs.declared.settings.AdminState.TheVariants.{Ready, D
 use Rattle.server_state.specs.declared.settings.CheckSettings.{CheckSettings}
 use Rattle.server_state.specs.declared.settings.ServerSettings.{ServerSettings}
 
+-- a server as it is seen: what is set for it, and its health
 pub record ServerView : Type 0 where
   pub admin : AdminState
   pub weight : ℕ
@@ -18,11 +19,13 @@ pub record ServerView : Type 0 where
   -- none for a server that isn't checked
   pub health : Option Tally
 
+-- the server is in maintenance
 abbrev pub is_maint : AdminState → Bool
 is_maint Ready = false
 is_maint Drain = false
 is_maint Maint = true
 
+-- the server is ready for new pins
 abbrev pub is_ready : AdminState → Bool
 is_ready Ready = true
 is_ready Drain = false

@@ -23,7 +23,9 @@ pub enum Setting {
 /// An operator's command for one server.
 #[derive(Clone, Copy, Debug, PartialEq, Eq, Hash)]
 pub struct Change {
+    /// Its number in the backend.
     pub server: ServerId,
+    /// What is set of it.
     pub setting: Setting,
 }
 

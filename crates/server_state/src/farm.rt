@@ -39,6 +39,8 @@ impl Farm {
 
     /// The servers at the start. `settings` is at most 128 servers, and `all_backups` tells whether all backups are
     /// usable together, where only backups are left, and not the first alone.
+    ///
+    /// It takes memory for one list of the servers, which is all that a farm ever has; want of memory is its one error.
     pub fn new(
         alloc: Global,
         settings: &[ServerSettings],
@@ -67,7 +69,7 @@ impl Farm {
     }
 
     /// The servers that new pins may go to: those that aren't backups, serve, are ready and have a weight above 0; if
-    /// there are none, the first backup with these properties, or all of them.
+    /// there are none, the first backup with these properties or, with `all_backups`, all of them.
     pub fn usable(&self) -> ServerSet
         ensures exact { result ≡ usable self.now }
         ensures members { (s : ℕ) → has result s
@@ -135,7 +137,7 @@ impl Farm {
     }
 
     /// Sets the admin state. A checked server that leaves `Maint` is warmed anew: it counts as up, and is one failure
-    /// from down.
+    /// from down. Refused as by `apply`, for `NoSuchServer` alone.
     pub fn set_admin(&mut self, server: ServerId, admin: AdminState) -> Result<(), ChangeFault>
         ensures { Sets self.old self.new result server (Setting.Admin admin) }
     {
@@ -144,7 +146,7 @@ impl Farm {
     }
 
     /// Makes a checked server count as up or as down, as if all the results that this needs had come. In maintenance
-    /// it is allowed, and leaving maintenance overwrites it.
+    /// it is allowed, and leaving maintenance overwrites it. Refused as by `apply`, for `NoSuchServer` or `NotChecked`.
     pub fn set_health(&mut self, server: ServerId, up: bool) -> Result<(), ChangeFault>
         ensures { Sets self.old self.new result server (Setting.Health up) }
     {
@@ -152,7 +154,7 @@ impl Farm {
         self.apply(Change { server, setting })
     }
 
-    /// Sets the weight, 0 to 256.
+    /// Sets the weight, 0 to 256. Refused as by `apply`, for `NoSuchServer` or `OutOfRange`.
     pub fn set_weight(&mut self, server: ServerId, weight: u64) -> Result<(), ChangeFault>
         ensures { Sets self.old self.new result server (Setting.Weight weight) }
     {
@@ -160,7 +162,8 @@ impl Farm {
         self.apply(Change { server, setting })
     }
 
-    /// Sets how many connections may be open at once, 0 to 4294967295, where 0 is no limit.
+    /// Sets how many connections may be open at once, 0 to 4294967295, where 0 is no limit. Refused as by `apply`, for
+    /// `NoSuchServer` or `OutOfRange`.
     pub fn set_maxconn(&mut self, server: ServerId, limit: u64) -> Result<(), ChangeFault>
         ensures { Sets self.old self.new result server (Setting.MaxConnections limit) }
     {
@@ -168,7 +171,8 @@ impl Farm {
         self.apply(Change { server, setting })
     }
 
-    /// Sets how many pins the server may hold, 0 to 16777216. Pins above a lowered limit stay.
+    /// Sets how many pins the server may hold, 0 to 16777216. Pins above a lowered limit stay. Refused as by `apply`,
+    /// for `NoSuchServer` or `OutOfRange`.
     pub fn set_maxpins(&mut self, server: ServerId, limit: u64) -> Result<(), ChangeFault>
         ensures { Sets self.old self.new result server (Setting.MaxPins limit) }
     {

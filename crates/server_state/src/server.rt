@@ -89,6 +89,7 @@ impl Server {
         self.backup
     }
 
+    /// The weight, 0 to 256.
     pub(crate) fn weight(&self) -> u16
         ensures exact { result ≡ self.now.weight }
         ensures in_range { result ≤ 256 }
@@ -96,12 +97,14 @@ impl Server {
         self.weight
     }
 
+    /// How many connections may be open; 0 is no limit.
     pub(crate) fn max_connections(&self) -> u32
         ensures { result ≡ self.now.max_connections }
     {
         self.max_connections
     }
 
+    /// How many pins it may hold, 0 to 16777216.
     pub(crate) fn max_pins(&self) -> u32
         ensures exact { result ≡ self.now.max_pins }
         ensures in_range { result ≤ 16777216 }

@@ -1,4 +1,4 @@
-ghost use Rattle.std.specs.Prelude.{◌≤◌, length};
+ghost use Rattle.std.specs.Prelude.{◌≤◌};
 
 use crate::{
     AdminState, Change, ChangeFault, CheckSettings, Checked, Farm, ServerSettings, Setting,
@@ -62,27 +62,47 @@ fn checked(rise: u16, fall: u16) -> ServerSettings
     settings
 }
 
-/// Whether the server may get new pins. Those with checks are down here.
-fn may_get_pins(settings: &ServerSettings) -> bool {
-    settings.admin == AdminState::Ready && settings.weight > 0 && settings.check.is_none()
+/// What checks say of a server.
+#[derive(Clone, Copy, Debug, PartialEq, Eq)]
+enum Checks {
+    /// It isn't checked.
+    Off,
+    /// Its first check failed, which brings it down.
+    Failed,
+    /// Its first check succeeded, so that it is up still.
+    Passed,
+}
+
+/// A server, and what checks say of it.
+#[derive(Clone, Copy, Debug)]
+struct Case {
+    settings: ServerSettings,
+    checks: Checks,
+}
+
+/// Whether the server may get new pins: it is ready, has a weight, and is unchecked or up.
+fn may_get_pins(case: &Case) -> bool {
+    case.settings.admin == AdminState::Ready
+        && case.settings.weight > 0
+        && case.checks != Checks::Failed
 }
 
 /// The usable servers, by the definition: those that aren't backups, else the first backup, or all.
-fn usable_plainly(servers: &[ServerSettings], all_backups: bool) -> ServerSet {
+fn usable_plainly(cases: &[Case], all_backups: bool) -> ServerSet {
     let mut main = ServerSet::empty();
     let mut all = ServerSet::empty();
     let mut first = ServerSet::empty();
     for i in 0..4u8 {
         // From the last server to the first.
         let at = 3 - i;
-        let Some(server) = servers.get(usize::from(at)) else {
+        let Some(case) = cases.get(usize::from(at)) else {
             continue;
         };
         let id = ServerId::new(at);
-        if may_get_pins(server) && server.backup {
+        if may_get_pins(case) && case.settings.backup {
             first = ServerSet::empty().with(id);
             all = all.with(id);
-        } else if may_get_pins(server) {
+        } else if may_get_pins(case) {
             main = main.with(id);
         }
     }
@@ -93,9 +113,14 @@ fn usable_plainly(servers: &[ServerSettings], all_backups: bool) -> ServerSet {
     }
 }
 
-/// One of 24 servers, in all that matters to which are usable.
-fn server_of(kind: u32) -> ServerSettings {
-    let mut settings = if kind / 6 % 2 == 0 {
+/// One of 36 servers, in all that matters to which are usable.
+fn case_of(kind: u32) -> Case {
+    let checks = match kind / 6 % 3 {
+        0 => Checks::Off,
+        1 => Checks::Failed,
+        _ => Checks::Passed,
+    };
+    let mut settings = if checks == Checks::Off {
         plain(false)
     } else {
         checked(1, 1)
@@ -106,27 +131,34 @@ fn server_of(kind: u32) -> ServerSettings {
         _ => AdminState::Maint,
     };
     settings.weight = if kind / 3 % 2 == 0 { 1 } else { 0 };
-    settings.backup = kind / 12 % 2 == 0;
-    settings
+    settings.backup = kind / 18 % 2 == 0;
+    Case { settings, checks }
 }
 
-/// Brings the checked servers down, and compares.
+/// Checks the checked servers once, and compares.
 fn compare(
     rt: &impl Abort,
     alloc: Global,
-    servers: &[ServerSettings],
+    cases: &[Case; 4],
+    count: usize,
     all_backups: bool,
-) -> Result<(), Fail>
-    requires { length servers.now ≤ 4 }
-{
-    let mut farm = Farm::new(alloc, servers, all_backups)?;
-    for i in 0..4u8 {
-        let _ = farm.check(ServerId::new(i), false);
+) -> Result<(), Fail> {
+    let settings = [
+        cases[0].settings,
+        cases[1].settings,
+        cases[2].settings,
+        cases[3].settings,
+    ];
+    let count = count.min(4);
+    let mut farm = Farm::new(alloc, &settings[..count], all_backups)?;
+    for (i, case) in cases.iter().enumerate() {
+        let _ = farm.check(ServerId::new(i as u8), case.checks == Checks::Passed);
     }
+    let cases = &cases[..count];
     assert_eq!(rt;
         farm.usable(),
-        usable_plainly(servers, all_backups),
-        "{servers:?}"
+        usable_plainly(cases, all_backups),
+        "{cases:?}"
     );
     Ok(())
 }
@@ -135,17 +167,16 @@ fn compare(
 fn every_farm_of_up_to_four_servers_is_usable_by_the_definition(
     rt: HostRuntime,
 ) -> Result<(), Fail> {
-    for (count, farms) in [(0usize, 1u32), (1, 24), (2, 576), (3, 13824), (4, 331776)] {
+    for (count, farms) in [(0usize, 1u32), (1, 36), (2, 1296), (3, 46656), (4, 1679616)] {
         for number in 0..farms {
-            let mut servers = [plain(false); 4];
+            let mut cases = [case_of(0); 4];
             let mut rest = number;
-            for server in servers.iter_mut() {
-                *server = server_of(rest % 24);
-                rest /= 24;
+            for case in cases.iter_mut() {
+                *case = case_of(rest % 36);
+                rest /= 36;
             }
-            let servers = &servers[..count.min(4)];
-            compare(&rt, rt.alloc(), servers, false)?;
-            compare(&rt, rt.alloc(), servers, true)?;
+            compare(&rt, rt.alloc(), &cases, count, false)?;
+            compare(&rt, rt.alloc(), &cases, count, true)?;
         }
     }
     Ok(())
