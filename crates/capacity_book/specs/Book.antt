@@ -1,13 +1,13 @@
 -- What each server holds, in the configuration's order: pins, whose limit (`maxpins`) is our own, and open
 -- connections, whose limit is HAProxy Configuration Manual 2.8, section 5.2, `maxconn`; a `maxconn` of 0 is none.
-use Rattle.std.specs.Prelude.{ℕ, ◌-◌, ◌^◌, Bool, false, not, ◌&&◌, ◌==◌, length, nat_lt, nat_le, List, Option, Some, None, replicate, slice_get, slice_set, slice_index, if◌then◌else◌}
-use Rattle.std.specs.Option.{option_map_or}
+use Rattle.std.specs.Prelude.{ℕ, ◌+◌, ◌^◌, Bool, not, ◌&&◌, ◌||◌, ◌==◌, length, nat_lt, nat_le, List, Option, Some, None, replicate, slice_set, slice_index, if◌then◌else◌}
 use Rattle.server_state.specs.Farm.{FarmView, serving, capacity_of, max_connections_of}
 use Rattle.capacity_book.specs.declared.fault.OpenFault.{OpenFault}
 use Rattle.capacity_book.specs.declared.fault.OpenFault.TheVariants.{NotServing, Full}
 use Rattle.capacity_book.specs.declared.fault.CloseFault.{CloseFault}
 use Rattle.capacity_book.specs.declared.fault.CloseFault.TheVariants.{NotOpen}
 
+-- a book as it is seen
 pub record BookView : Type 0 where
   -- how many pins each server holds
   pub pins : List ℕ
@@ -28,7 +28,7 @@ connections_at book server = slice_index book.connections server
 
 -- the server is in the book, and holds fewer pins than its capacity
 abbrev pub has_room : BookView → FarmView → ℕ → Bool
-has_room book farm server = option_map_or (λ pins. nat_lt pins (capacity_of farm server)) (slice_get book.pins server) false
+has_room book farm server = nat_lt server (length book.pins) && nat_lt (pins_at book server) (capacity_of farm server)
 
 -- the book with another number of pins at one server
 abbrev pub with_pins : BookView → ℕ → ℕ → BookView
@@ -42,26 +42,27 @@ with_all_pins book pins = record book { pins = pins }
 abbrev pub with_connections : BookView → ℕ → ℕ → BookView
 with_connections book server count = record book { connections = slice_set book.connections server count }
 
--- how many connections may be open at a server: its `maxconn`; where that is 0, as many as 64 bits count
-abbrev pub most_connections : ℕ → ℕ
-most_connections maxconn = if maxconn == 0 then 2 ^ 64 - 1 else maxconn
-
 -- the server is in the book, and it serves
 abbrev pub may_open : BookView → FarmView → ℕ → Bool
 may_open book farm server = nat_lt server (length book.connections) && serving farm server
 
--- as many connections are open as may be
-abbrev pub is_full : BookView → FarmView → ℕ → Bool
-is_full book farm server = nat_le (most_connections (max_connections_of farm server)) (connections_at book server)
-
--- why no connection is opened at the server, if none is
-abbrev pub open_fault : BookView → FarmView → ℕ → Option OpenFault
-open_fault book farm server =
-    if not (may_open book farm server) then Some NotServing else (if is_full book farm server then Some Full else None)
-
 -- there is a `maxconn`, and at least so many connections are open
 abbrev pub has_reached : ℕ → ℕ → Bool
 has_reached maxconn count = not (maxconn == 0) && nat_le maxconn count
+
+-- 64 bits don't count one connection more
+abbrev pub counts_no_more : ℕ → Bool
+counts_no_more count = nat_le (2 ^ 64) (count + 1)
+
+-- no connection more may be open: `maxconn` is reached, or 64 bits count no more
+abbrev pub is_full : ℕ → ℕ → Bool
+is_full maxconn count = has_reached maxconn count || counts_no_more count
+
+-- why no connection is opened at the server, if none is: it isn't in the book, or doesn't serve; else it is full
+abbrev pub open_fault : BookView → FarmView → ℕ → Option OpenFault
+open_fault book farm server =
+    if not (may_open book farm server) then Some NotServing
+    else (if is_full (max_connections_of farm server) (connections_at book server) then Some Full else None)
 
 -- why no connection is opened at the server, if none is, by the manual's words alone
 abbrev pub fault_by_maxconn : FarmView → ℕ → ℕ → Option OpenFault

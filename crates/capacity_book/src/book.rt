@@ -1,6 +1,6 @@
 ghost use Rattle.std.specs.Prelude.{◌≡◌, ◌+◌, ◌-◌, ◌<◌, true, length, IfOk, OnOk, OnErr};
 ghost use Rattle.std.specs.Result.{result_err};
-ghost use Rattle.capacity_book.specs.Book.{most_connections};
+ghost use Rattle.capacity_book.specs.Book.{is_full};
 
 use crate::{CloseFault, OpenFault};
 use lb_types::ServerId;
@@ -100,7 +100,7 @@ impl Book {
         let Some(connections) = self.connections.get_mut(server.index()) else {
             return Err(OpenFault::NotServing);
         };
-        if most_connections(farm.max_connections(server)) <= *connections {
+        if is_full(farm.max_connections(server), *connections) {
             return Err(OpenFault::Full);
         }
         *connections += 1;
@@ -132,12 +132,12 @@ impl Book {
     }
 }
 
-/// How many connections may be open at a server with this `maxconn`.
-fn most_connections(maxconn: u32) -> u64
-    ensures { result ≡ most_connections maxconn }
+/// Whether no connection more may be open at a server with this `maxconn`.
+fn is_full(maxconn: u32, connections: u64) -> bool
+    ensures { result ≡ is_full maxconn connections }
 {
     match maxconn {
-        0 => u64::MAX,
-        limit => u64::from(limit),
+        0 => connections == u64::MAX,
+        limit => connections >= u64::from(limit),
     }
 }

@@ -37,7 +37,7 @@ some_server_word = codes "a/a"
 some_server_is : server_in some_server_word ≡ Ok some_server
 some_server_is = server_again some_server refl refl
 
-some_number_is : number_in (codes "0") ≡ Ok 0
+pub some_number_is : number_in (codes "0") ≡ Ok 0
 some_number_is = number_again (codes "0") 0 (refl, refl) (omega arith)
 
 some_name_is : name_in (codes "a") ≡ Ok (codes "a")
@@ -91,7 +91,7 @@ last_weight : IsReading Setting (last weight_in)
 unfolding weight_in
 last_weight = reading-last Setting weight_in weight_misses_none (codes "0") (Weight 0) (rw some_number_is refl)
 
-abbrev setting_chain : Word → Behind Setting
+abbrev pub setting_chain : Word → Behind Setting
 setting_chain w more =
     cond (bytes_eq w (codes "state")) (last admin_in more)
     (cond (bytes_eq w (codes "health")) (last health_in more) (cond (bytes_eq w (codes "weight")) (last weight_in more) (Err UnknownCommand)))
@@ -134,13 +134,13 @@ set_server_reading =
     (λ w. reading-given ServerName Command (server_in w) (λ server more. setting_of more >>= λ setting. Ok (Set server setting)) (server_misses_none w) (λ server. reading-map Setting Command setting_of (λ setting. Set server setting) setting_reading))
     some_server_word (codes "health" ∷ codes "up" ∷ []) (Set some_server (Health true)) (rw some_server_is refl)
 
-abbrev set_numbered : (ℕ → Setting) → Behind Command
+abbrev pub set_numbered : (ℕ → Setting) → Behind Command
 set_numbered setting more = numbered_of more >>= λ x. Ok (Set x.0 (setting x.1))
 
-abbrev set_server_numbered : (ℕ → Setting) → Behind Command
+abbrev pub set_server_numbered : (ℕ → Setting) → Behind Command
 set_server_numbered setting more = server_numbered_of more >>= λ x. Ok (Set x.0 (setting x.1))
 
-abbrev set_chain : Word → Behind Command
+abbrev pub set_chain : Word → Behind Command
 set_chain w more =
     cond (bytes_eq w (codes "server")) (set_server_of more)
     (cond (bytes_eq w (codes "weight")) (set_numbered Weight more)
@@ -171,10 +171,10 @@ plan_reading =
     reading-map (List ℕ) Command _ (λ backend. Plan backend)
     (reading-behind (List ℕ) (codes "backend") (last name_in) last_name (codes "a" ∷ []) (codes "a") (rw some_name_is refl))
 
-abbrev command_stop : Behind Command
+abbrev pub command_stop : Behind Command
 command_stop more = at_end more >>= λ _. Ok Stop
 
-abbrev command_chain : Word → Behind Command
+abbrev pub command_chain : Word → Behind Command
 command_chain w more =
     cond (bytes_eq w (codes "set")) (set_of more)
     (cond (bytes_eq w (codes "enable")) (switch_of Ready more)

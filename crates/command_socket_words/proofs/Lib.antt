@@ -1,3 +1,4 @@
+pub mod BadNumbers
 pub mod FirstFaults
 pub mod Found
 pub mod Lines

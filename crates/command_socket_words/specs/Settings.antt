@@ -25,6 +25,7 @@ health_in word =
     else if bytes_eq word (codes "down") then Ok (Health false)
     else Err UnknownCommand
 
+-- the weight that the word's decimal digits say
 unfoldable pub weight_in : Word → Result Setting CommandFault
 weight_in word = number_in word >>= λ n. Ok (Weight n)
 

@@ -4,7 +4,9 @@ use server_state::Setting;
 /// A server, as commands name it: `web/a` is the server `a` of the backend `web`.
 #[derive(Clone, Copy, Debug, PartialEq, Eq, Hash)]
 pub struct ServerName {
+    /// The backend's name.
     pub backend: Name,
+    /// The server's name in its backend.
     pub server: Name,
 }
 

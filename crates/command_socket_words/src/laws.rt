@@ -1,11 +1,12 @@
-ghost use Rattle.std.specs.Prelude.{◌≡◌, ◌≢◌, ◌≤◌, ℕ, List, ◌∷◌, ◌++◌, true, map, length, Ok, Err};
+ghost use Rattle.std.specs.Prelude.{◌≡◌, ◌≢◌, ◌≤◌, ℕ, List, [], ◌∷◌, ◌++◌, true, codes, map, length, Ok, Err};
 ghost use Rattle.std.specs.List.{list_all};
 ghost use Rattle.command_socket_words.specs.declared.command.Command.{Command};
 ghost use Rattle.command_socket_words.specs.declared.fault.CommandFault.{CommandFault};
-ghost use Rattle.command_socket_words.specs.declared.fault.CommandFault.TheVariants.{UnknownCommand, MissingWord};
+ghost use Rattle.command_socket_words.specs.declared.fault.CommandFault.TheVariants.{UnknownCommand, MissingWord, BadNumber};
 ghost use Rattle.command_socket_words.specs.Commands.{command_of, commands_of};
 ghost use Rattle.command_socket_words.specs.Lines.{are_words, line_of};
 ghost use Rattle.command_socket_words.specs.Meanings.{IsCommand, Says};
+ghost use Rattle.command_socket_words.specs.Values.{number_in};
 ghost use Rattle.command_socket_words.specs.Words.{Word};
 
 /// A command is read exactly where its words say it: `Says` is the table of commands.
@@ -27,6 +28,11 @@ pub fn the_first_fault_is_told()
     // Behind a whole command each word is one too many.
     ensures ends { (words : List Word) (word : Word) (more : List Word) (command : Command)
         → command_of words ≡ Ok command → command_of (words ++ word ∷ more) ≡ Err UnknownCommand }
+    // A number is told as bad only where that word alone is wrong: with 0 in its place the words up to it are a command.
+    ensures number { (words : List Word) → command_of words ≡ Err BadNumber
+        → (front more : List Word) × (bad : Word) × (command : Command)
+        × (words ≡ front ++ bad ∷ more) × (number_in bad ≡ Err BadNumber)
+        × (command_of (front ++ codes "0" ∷ []) ≡ Ok command) }
 {}
 
 /// Commands whose words stand in a line, with spaces and semicolons between them, are each read by their words.

@@ -18,7 +18,8 @@ const LONGEST_LINE: usize = 4096;
 /// Commands stand between semicolons, words between spaces, any number of them; a tab is part of a word. What has no
 /// word is passed over. A line of more than 4096 bytes is one `UnknownCommand`.
 ///
-/// One walk over the line. The memory is that of the commands.
+/// One walk over the line. The memory is that of one list of what it gives: at most 2048 commands and faults, for no more
+/// fit in a line. The error is want of memory.
 pub fn read_commands(
     alloc: Global,
     line: &[u8],
@@ -50,6 +51,7 @@ fn read_text(text: &[u8]) -> Option<Result<Command, CommandFault>>
     Some(read_command(first, &mut words))
 }
 
+/// The command whose words these are: the first one, and those that follow.
 #[tactic(auto, unfolding(crate::specs::Commands::command_of))]
 fn read_command(first: &[u8], words: &mut Words) -> Result<Command, CommandFault>
     ensures { result ≡ command_of (first.now ∷ words.old) }
@@ -76,6 +78,7 @@ fn read_command(first: &[u8], words: &mut Words) -> Result<Command, CommandFault
     Err(CommandFault::UnknownCommand)
 }
 
+/// What stands behind `plan`.
 #[tactic(auto, unfolding(crate::specs::Commands::plan_of, crate::specs::Words::behind, crate::specs::Words::last))]
 fn read_plan(words: &mut Words) -> Result<Command, CommandFault>
     ensures { result ≡ plan_of words.old }
@@ -88,6 +91,7 @@ fn read_plan(words: &mut Words) -> Result<Command, CommandFault>
     Ok(Command::Plan(backend))
 }
 
+/// What stands behind `show`.
 #[tactic(auto, unfolding(crate::specs::Commands::show_of, crate::specs::Words::last))]
 fn read_show(words: &mut Words) -> Result<Command, CommandFault>
     ensures { result ≡ show_of words.old }
@@ -98,6 +102,7 @@ fn read_show(words: &mut Words) -> Result<Command, CommandFault>
     Ok(Command::Show(shown, backend))
 }
 
+/// What `show` is asked for.
 #[tactic(auto, unfolding(crate::specs::Commands::shown_in))]
 fn read_shown(word: &[u8]) -> Result<Shown, CommandFault>
     ensures { result ≡ shown_in word.now }

@@ -6,6 +6,7 @@ use crate::values::read_number;
 use crate::words::{Words, is};
 use server_state::{AdminState, Setting};
 
+/// The admin state that the word is.
 #[tactic(auto, unfolding(crate::specs::Settings::admin_in))]
 fn read_admin(word: &[u8]) -> Result<Setting, CommandFault>
     ensures { result ≡ admin_in word.now }
@@ -22,6 +23,7 @@ fn read_admin(word: &[u8]) -> Result<Setting, CommandFault>
     Err(CommandFault::UnknownCommand)
 }
 
+/// The health that the word is, `up` or `down`.
 #[tactic(auto, unfolding(crate::specs::Settings::health_in))]
 fn read_health(word: &[u8]) -> Result<Setting, CommandFault>
     ensures { result ≡ health_in word.now }
@@ -35,6 +37,7 @@ fn read_health(word: &[u8]) -> Result<Setting, CommandFault>
     Err(CommandFault::UnknownCommand)
 }
 
+/// The weight that the word's decimal digits say.
 #[tactic(auto, unfolding(crate::specs::Settings::weight_in))]
 fn read_weight(word: &[u8]) -> Result<Setting, CommandFault>
     ensures { result ≡ weight_in word.now }

@@ -22,6 +22,7 @@ pub(crate) fn read_server(word: &[u8]) -> Result<ServerName, CommandFault>
     read_names(&mut names).ok_or(CommandFault::UnknownCommand)
 }
 
+/// The server that two names say, the backend's first.
 #[tactic(auto, unfolding(crate::specs::Values::server_of))]
 fn read_names(names: &mut Parts) -> Option<ServerName>
     ensures { result ≡ server_of names.old }

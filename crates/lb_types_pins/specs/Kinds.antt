@@ -5,9 +5,11 @@ use Rattle.std.specs.Option.{option_eq}
 use Rattle.lb_types_pins.specs.declared.kind.PinKind.{PinKind}
 use Rattle.lb_types_pins.specs.declared.kind.Row.{Row}
 
+-- the places are one server, or both are none
 abbrev pub same_place : Option ℕ → Option ℕ → Bool
 same_place p q = option_eq nat_eq p q
 
+-- the kinds have one place, one permitted set and one cost
 abbrev pub same_kind : PinKind → PinKind → Bool
 same_kind a b = same_place a.place b.place && (a.permitted == b.permitted && a.cost == b.cost)
 
@@ -16,6 +18,7 @@ abbrev pub place_rank : Option ℕ → ℕ
 place_rank None = 0
 place_rank (Some server) = suc server
 
+-- the place comes before the other
 abbrev pub place_before : Option ℕ → Option ℕ → Bool
 place_before p q = nat_lt (place_rank p) (place_rank q)
 
