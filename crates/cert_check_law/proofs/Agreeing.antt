@@ -126,6 +126,11 @@ pub total_cost-same : (rows : List Row) (pins : List PinKind) (a : List (Option 
 total_cost-same rows pins a agrees =
     ap (λ k. total_cost k pins a) (unplaced_cost-rows rows pins a agrees) ∙ total_cost-rows (rows_unplaced_cost rows) rows pins a agrees
 
+pub least_total-same : (price : ℕ → ℕ) (n : ℕ) (rows : List Row) (pins : List PinKind) (a : List (Option ℕ)) → Agrees rows pins a
+    → least_total (unplaced_cost pins) price n pins ≡ rows_least (rows_unplaced_cost rows) price n rows
+least_total-same price n rows pins a agrees =
+    ap (λ k. least_total k price n pins) (unplaced_cost-rows rows pins a agrees) ∙ least_total-rows (rows_unplaced_cost rows) price n rows pins a agrees
+
 score_from : ℕ → ℕ → ℕ → ℕ → Score
 score_from pins unplaced moved cost = record { pins = pins; unplaced = unplaced; moved = moved; cost = cost }
 
@@ -157,9 +162,8 @@ pub agreeing_are_best : (capacity price : ℕ → ℕ) (n : ℕ) (rows : List Ro
 agreeing_are_best capacity price n rows below shown = record {
   best = λ pins a agrees.
       let lawful = lawful-rows capacity rows pins a agrees shown.permitted shown.within in
-      let u = unplaced_cost-rows rows pins a agrees in
       let cost = total_cost-same rows pins a agrees in
-      let leasts = ap (λ k. least_total k price n pins) u ∙ least_total-rows (rows_unplaced_cost rows) price n rows pins a agrees in
+      let leasts = least_total-same price n rows pins a agrees in
       best_at_bound capacity price n pins a (All-pins (PermitsBelow n) rows pins a agrees below) lawful (omega (arith, shown.shown));
   score = λ pins a agrees. score-rows rows pins a agrees;
 }

@@ -7,7 +7,7 @@ use Rattle.lb_types_pins.specs.declared.kind.Group.{Group}
 use Rattle.lb_types_pins.specs.declared.kind.Row.{Row}
 use Rattle.pin_set.specs.Costs.{held}
 use Rattle.pin_set.specs.Assignments.{unplaced, spent, IsLawful, IsBest, unplaced_cost, total_cost, least_total, PermitsBelow, BoundHolds}
-use Rattle.pin_set.specs.Rows.{AreGroupsOf, Agrees, rows_unplaced_cost, rows_cost, RowPermitsBelow, IsShownBest, AgreeingAreBest}
+use Rattle.pin_set.specs.Rows.{AreGroupsOf, Agrees, rows_unplaced_cost, rows_cost, rows_least, RowPermitsBelow, IsShownBest, AgreeingAreBest}
 use Rattle.pin_set.specs.Views.{ViewParts, IsView, kinds_of, capacities}
 
 -- whatever the pins, the capacities, the prices and the cost of going without a server, no lawful assignment goes below
@@ -50,6 +50,11 @@ SumsOverRows = (rows : List Row) (pins : List PinKind) (a : List (Option ℕ)) (
 abbrev pub AgreeingCostTheSame : Type 0
 AgreeingCostTheSame = (rows : List Row) (pins : List PinKind) (a : List (Option ℕ)) → Agrees rows pins a
     → total_cost (unplaced_cost pins) pins a ≡ rows_cost (rows_unplaced_cost rows) rows
+
+-- at any prices, the least sums of cost and price of the pins of an assignment that agrees with rows are the rows'
+abbrev pub AgreeingLeastTheSame : Type 0
+AgreeingLeastTheSame = (price : ℕ → ℕ) (n : ℕ) (rows : List Row) (pins : List PinKind) (a : List (Option ℕ)) → Agrees rows pins a
+    → least_total (unplaced_cost pins) price n pins ≡ rows_least (rows_unplaced_cost rows) price n rows
 
 -- what agrees with rows that are shown best is best, and has the rows' score
 abbrev pub ShownAreBest : Type 0

@@ -1,5 +1,5 @@
 ghost use Rattle.cert_check_law.specs.Laws.{BoundsHold, ViewBoundsHold, CostsSplit, MovesCostLess, BestAtBound};
-ghost use Rattle.cert_check_law.specs.Laws.{SumsOverGroups, SumsOverRows, AgreeingCostTheSame, ShownAreBest};
+ghost use Rattle.cert_check_law.specs.Laws.{SumsOverGroups, SumsOverRows, AgreeingCostTheSame, AgreeingLeastTheSame, ShownAreBest};
 
 /// Weak duality for single pins: at any prices, no lawful assignment costs less than the prices show.
 pub fn weak_duality()
@@ -24,8 +24,10 @@ pub fn sums_by_count()
     ensures rows { SumsOverRows }
 {}
 
-/// Every assignment that agrees with rows has their cost, and is best where prices show the rows best.
+/// Every assignment that agrees with rows has their cost, and at all prices their bound, and is best where prices show the
+/// rows best.
 pub fn agreeing_are_best()
     ensures cost { AgreeingCostTheSame }
+    ensures least { AgreeingLeastTheSame }
     ensures best { ShownAreBest }
 {}

@@ -1,3 +1,4 @@
+pub mod Beginnings
 pub mod Bodies
 pub mod Members
 pub mod PlanLaws

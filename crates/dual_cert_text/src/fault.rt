@@ -4,8 +4,8 @@ ghost use Rattle.std.specs.String.{string_bytes};
 use std::alloc::{AllocError, AllocFailed, Global};
 use thiserror::Error;
 
-/// Why a text is no plan. Of several faults the first one in the text is told, and in one line `BadLine` before
-/// `TooLarge` before `NotCanonical`.
+/// Why a text is no plan, or no sheet. Of several faults the first one in the text is told, and in one line `BadLine`
+/// before `TooLarge` before `NotCanonical`.
 #[derive(Clone, Copy, Debug, PartialEq, Eq, Error)]
 pub enum TextFault {
     /// The line of this number, counted from 1, is not of the form due there.
@@ -14,7 +14,7 @@ pub enum TextFault {
     /// A number is beyond its range, there are more than 128 servers, or more than 16777216 pins.
     #[error("a number is beyond its range")]
     TooLarge,
-    /// Servers of a set, or rows, are not in strictly rising order, or the text is of version 2 without need.
+    /// Servers of a set, or rows or groups, are not in strictly rising order, or the text is of version 2 without need.
     #[error("the text is not in its one order and form")]
     NotCanonical,
     /// The text ends before the line end of `end`.

@@ -1,6 +1,8 @@
-ghost use Rattle.std.specs.Prelude.{◌≡◌, ℕ, ◌+◌, ◌^◌, ◌<◌, List, [], ◌++◌, length, IfOk};
+ghost use Rattle.std.specs.Prelude.{◌≡◌, ◌≢◌, ℕ, ◌+◌, ◌^◌, ◌<◌, List, [], ◌++◌, length, IfOk};
 ghost use Rattle.lb_types_text.specs.Parts.{parts};
 ghost use Rattle.dual_cert_plan.specs.Plans.{PlanParts, IsPlan};
+ghost use Rattle.dual_cert_text.specs.declared.fault.TextFault.{TextFault};
+ghost use Rattle.dual_cert_text.specs.declared.fault.TextFault.TheVariants.{Truncated};
 ghost use Rattle.dual_cert_text.specs.Faults.{Gives};
 ghost use Rattle.dual_cert_text.specs.Spellings.{spelling};
 ghost use Rattle.dual_cert_text.specs.PlanTexts.{plan_format, plan_of_text};
@@ -40,6 +42,18 @@ pub fn read_plan(alloc: Global, text: &[u8]) -> Result<Plan, ReadError>
 pub fn one_text()
     ensures { (a b : PlanParts) (rest : List ℕ) → IsPlan a → IsPlan b
         → spelling b ≡ spelling a ++ rest → (a ≡ b) × (rest ≡ []) }
+{}
+
+/// A fault stays, whatever follows the text: only a truncated text can be gone on with.
+pub fn a_fault_stays()
+    ensures { (front rest : List ℕ) (fault : TextFault) → fault ≢ Truncated
+        → plan_of_text front ≡ Err fault → plan_of_text (front ++ rest) ≡ Err fault }
+{}
+
+/// Each beginning of a plan's text is truncated, so no other fault is found in the beginning of a text that is a plan's.
+pub fn a_beginning_is_truncated()
+    ensures { (plan : PlanParts) (front rest : List ℕ) → IsPlan plan → rest ≢ []
+        → spelling plan ≡ front ++ rest → plan_of_text front ≡ Err Truncated }
 {}
 
 #[tactic(auto, unfolding(crate::specs::PlanTexts::plan_of_text))]

@@ -42,12 +42,15 @@ rows_pins rows = sum_by (λ r. r.count) rows
 abbrev pub rows_load : List Row → ℕ → ℕ
 rows_load rows server = sum_by (λ r. if is_at server r.new_place then r.count else 0) rows
 
+-- how many pins the rows send to no server
 abbrev pub rows_unplaced : List Row → ℕ
 rows_unplaced rows = sum_by (λ r. if is_none r.new_place then r.count else 0) rows
 
+-- how many pins the rows send to another place than their own
 abbrev pub rows_moved : List Row → ℕ
 rows_moved rows = sum_by (λ r. if is_moved r.kind r.new_place then r.count else 0) rows
 
+-- what the moves of all the rows' pins cost together
 abbrev pub rows_spent : List Row → ℕ
 rows_spent rows = sum_by (λ r. r.count * move_cost r.kind r.new_place) rows
 

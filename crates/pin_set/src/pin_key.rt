@@ -42,7 +42,7 @@ impl KeyText {
         KeyText { bytes }
     }
 
-    /// The bytes of the key, copied.
+    /// The key of a copy of these bytes.
     pub fn copied_from(alloc: Global, bytes: &[u8]) -> Result<KeyText, AllocError>
         ensures { IfOk result (λ text. text ≡ bytes.now) }
     {
