@@ -17,11 +17,18 @@ const BLOCK: usize = 64;
 ///
 /// A look is one test of moving one group's pins from an option to another. The arc between two options is found anew only
 /// after a move of pins that could have made another group's less.
+///
+/// It is also remembered to which options pins were moved last: the next way to an option with room is likely to lead through
+/// these too. No contract speaks of that, since it only decides which of equally near options is settled first.
 #[derive(Drop)]
 pub struct Arcs {
     least: Vec<Option<usize>>,
     fresh: Vec<bool>,
     looks: u64,
+    /// How many moves of pins were made, from 0 again after 2^64.
+    moves: u64,
+    /// For each option the number of the last move of pins to it, and 0 where there was none.
+    latest: [u64; MOST_OPTIONS],
 }
 
 impl Model for Arcs {
@@ -31,7 +38,7 @@ impl Model for Arcs {
 }
 
 impl Arcs {
-    /// No arcs between so many options. Memory for 17 bytes for each two options.
+    /// No arcs between so many options, and no move. Memory for 17 bytes for each two options.
     pub fn new(alloc: Global, options: usize) -> Result<Self, AllocError>
         requires { options ≤ 129 }
         ensures { IfOk result (λ arcs. arcs ≡ no_arcs options) }
@@ -40,6 +47,8 @@ impl Arcs {
             least: vec![in alloc; None; options * options]?,
             fresh: vec![in alloc; false; options * options]?,
             looks: 0,
+            moves: 0,
+            latest: [0; MOST_OPTIONS],
         })
     }
 
@@ -48,6 +57,23 @@ impl Arcs {
         ensures { result ≡ self.now.looks }
     {
         self.looks
+    }
+
+    /// Remembers that pins were moved to the option.
+    pub(crate) fn note_move(&mut self, option: usize)
+        requires { option < 129 }
+        ensures { self.new ≡ self.old }
+    {
+        self.moves = self.moves.wrapping_add(1);
+        self.latest[option] = self.moves;
+    }
+
+    /// Whether pins were moved to the option later than to the other one.
+    pub(crate) fn is_later(&self, option: usize, other: usize) -> bool
+        requires option { option < 129 }
+        requires other { other < 129 }
+    {
+        self.latest[other] < self.latest[option]
     }
 
     /// The group whose pins cost the least more at `target` than at `source`.

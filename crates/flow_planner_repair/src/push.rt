@@ -71,6 +71,7 @@ pub(crate) fn push(
     let moved = push(network, labels, counts, arcs, start, before, most);
     shift(width, counts, before, option, via, moved);
     forget_move(network, counts, arcs, before, option, via, moved);
+    arcs.note_move(option);
     moved
 }
 

@@ -79,8 +79,15 @@ fn settle(network: &Network, prices: &[u64], arcs: &Arcs, labels: &mut [Label], 
 }
 
 #[tactic(auto, using(std::proofs::lemmas::Bool::Decides::nat_tests), unfolding(crate::specs::Searches::dist, crate::specs::Searches::rank))]
-/// Whether `option` isn't settled and comes before `best`: it is nearer, or as near and has room.
-fn is_nearer(network: &Network, loads: &[u32], labels: &[Label], option: usize, best: usize) -> bool
+/// Whether `option` isn't settled and comes before `best`: it is nearer, or as near and preferred.
+fn is_nearer(
+    network: &Network,
+    loads: &[u32],
+    arcs: &Arcs,
+    labels: &[Label],
+    option: usize,
+    best: usize,
+) -> bool
     requires option { option < options network.now }
     requires best { best < options network.now }
     requires loads { length loads.now ≡ options network.now }
@@ -95,11 +102,29 @@ fn is_nearer(network: &Network, loads: &[u32], labels: &[Label], option: usize, 
     if label.rank < network.options() || least < label.dist {
         return false;
     }
-    label.dist < least || loads[option] < network.capacity(option)
+    label.dist < least || is_preferred(network, loads, arcs, option, best)
 }
 
-/// The nearest option that isn't settled.
-fn nearest(network: &Network, loads: &[u32], labels: &[Label]) -> usize
+/// Whether `option` is taken before `best`, which is as near: one with room comes first, and then the one to which pins were
+/// moved last. Any order would be right. This one settles the fewest options, since most moves go nearly the same way as the one
+/// before.
+fn is_preferred(network: &Network, loads: &[u32], arcs: &Arcs, option: usize, best: usize) -> bool
+    requires few { options network.now ≤ 129 }
+    requires option { option < options network.now }
+    requires best { best < options network.now }
+    requires loads { length loads.now ≡ options network.now }
+{
+    let has_room = loads[option] < network.capacity(option);
+    let had_room = loads[best] < network.capacity(best);
+    if has_room == had_room {
+        arcs.is_later(option, best)
+    } else {
+        has_room
+    }
+}
+
+/// The nearest option that isn't settled, and the one that is preferred where several are as near.
+fn nearest(network: &Network, loads: &[u32], arcs: &Arcs, labels: &[Label]) -> usize
     requires first { options network.now ≤ rank labels.now 0 }
     requires loads { length loads.now ≡ options network.now }
     requires labels { length labels.now ≡ options network.now }
@@ -107,7 +132,7 @@ fn nearest(network: &Network, loads: &[u32], labels: &[Label]) -> usize
 {
     let mut best = 0;
     for option in 1..network.options() {
-        if is_nearer(network, loads, labels, option, best) {
+        if is_nearer(network, loads, arcs, labels, option, best) {
             best = option;
         }
     }
@@ -155,13 +180,13 @@ pub(crate) fn search(
 {
     begin(labels, start);
     let mut settled = 0;
-    let mut here = nearest(network, loads, labels);
+    let mut here = nearest(network, loads, arcs, labels);
     while network.capacity(here) <= loads[here] {
         labels[here].rank = settled;
         settled += 1;
         arcs.refresh(network, counts, here);
         settle(network, prices, arcs, labels, here);
-        here = nearest(network, loads, labels);
+        here = nearest(network, loads, arcs, labels);
     }
     here
 }

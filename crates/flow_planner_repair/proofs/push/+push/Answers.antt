@@ -132,7 +132,7 @@ returns t c =
     let width = c.size-width.ensures.exact in
     let move : IsMoved (size network) middle new before option group q =
     subst (λ w. IsMoved w (used_of w c.push-moved.new.counts) (used_of w c.shift.new.counts) before option group q) width c.shift.ensures.moved in
-    record {
+    rw c.note_move.ensures (record {
       some = made.some;
       within = omega (arith, made.within, c.min-most.ensures);
       table = c.shift.ensures.len ∙ made.table;
@@ -144,4 +144,4 @@ returns t c =
       forgotten = forgotten_both network old middle new c.args.arcs.now c.push-moved.new.arcs c.forget_move.new.arcs made.forgotten
           (c.forget_move.ensures.forgotten middle move);
       looks = omega (arith, c.forget_move.ensures.looks, made.looks, mul-le-mul_right (options network) tied.earlier);
-    }
+    })
