@@ -1,3 +1,4 @@
+pub mod Beginnings
 pub mod GroupTexts
 pub mod RoomTexts
 pub mod SheetLaws

@@ -2,6 +2,8 @@ ghost use Rattle.std.specs.Prelude.{◌≡◌, ◌≢◌, ℕ, ◌+◌, ◌^◌,
 ghost use Rattle.lb_types_text.specs.Parts.{parts};
 ghost use Rattle.dual_cert_plan.specs.Plans.{PlanParts};
 ghost use Rattle.dual_cert_plan.specs.Sheets.{SheetParts, IsSheet};
+ghost use Rattle.dual_cert_text.specs.declared.fault.TextFault.{TextFault};
+ghost use Rattle.dual_cert_text.specs.declared.fault.TextFault.TheVariants.{Truncated};
 ghost use Rattle.dual_cert_text.specs.Faults.{Gives};
 ghost use Rattle.dual_cert_text.specs.Spellings.{spelling};
 ghost use Rattle.dual_cert_text.specs.Texts.{body_at, end_at, is_nothing, reading};
@@ -42,6 +44,18 @@ pub fn read_sheet(alloc: Global, text: &[u8]) -> Result<Sheet, ReadError>
 pub fn one_text()
     ensures { (a b : SheetParts) (rest : List ℕ) → IsSheet a → IsSheet b
         → sheet_spelling b ≡ sheet_spelling a ++ rest → (a ≡ b) × (rest ≡ []) }
+{}
+
+/// A fault stays, whatever follows the text: only a truncated text can be gone on with.
+pub fn a_fault_stays()
+    ensures { (front rest : List ℕ) (fault : TextFault) → fault ≢ Truncated
+        → sheet_of_text front ≡ Err fault → sheet_of_text (front ++ rest) ≡ Err fault }
+{}
+
+/// Each beginning of a sheet's text is truncated, so no other fault is found in the beginning of a text that is a sheet's.
+pub fn a_beginning_is_truncated()
+    ensures { (sheet : SheetParts) (front rest : List ℕ) → IsSheet sheet → rest ≢ []
+        → sheet_spelling sheet ≡ front ++ rest → sheet_of_text front ≡ Err Truncated }
 {}
 
 /// No text begins with a sheet and with a plan, so neither is taken for the other.

@@ -4,7 +4,7 @@ ghost use Rattle.lb_types_counted.specs.Writers.{AppendsFront, Rises};
 ghost use Rattle.dual_cert_text.specs.Spellings.{text_of_lines};
 ghost use Rattle.dual_cert_sheet.specs.SheetSpellings.{sheet_server_line, group_line, sheet_spelling};
 ghost use Rattle.dual_cert_sheet.specs.SheetTexts.{needs_costs, sheet_of_text};
-ghost use Rattle.dual_cert_write.specs.Sending.{Sends, Sent, HasListedSet};
+ghost use Rattle.dual_cert_write.specs.Sending.{Sends, WasSent, HasListedSet};
 
 use crate::WriteFailed;
 use dual_cert_plan::{Server, Sheet};
@@ -38,7 +38,7 @@ pub fn write_sheet<W: Write>(sheet: &Sheet, out: &mut Counted<W>) -> Result<(), 
 }
 
 fn send_sheet<W: Write>(sheet: &Sheet, out: &mut Counted<W>) -> Sent
-    ensures sent { Sent out.old out.new result (sheet_spelling sheet.now) }
+    ensures sent { WasSent out.old out.new result (sheet_spelling sheet.now) }
     ensures read_back { sheet_of_text (sheet_spelling sheet.now) ≡ Ok sheet.now }
 {
     let has_costs = needs_costs(sheet.groups());

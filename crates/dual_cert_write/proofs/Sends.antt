@@ -9,7 +9,7 @@ use Rattle.std.specs.Io.KnownBytes.{Appends}
 use Rattle.std.specs.Result.{OnOk, OnErr}
 use Rattle.std.specs.Borrow.{Bor}
 use Rattle.dual_cert_text.specs.Spellings.{line_of_words, text_of_lines}
-use Rattle.dual_cert_write.specs.Sending.{Sent, Sends, words_of}
+use Rattle.dual_cert_write.specs.Sending.{Sends, WasSent, words_of}
 use Rattle.dual_cert_write.proofs.Joins.{words-more}
 use Rattle.dual_cert_write.proofs.Lines.{text-more, text-nil}
 
@@ -32,12 +32,12 @@ front_second old mid new xs ys whole front =
     (length xs + front.0, rw (take-append-add xs ys front.0) (Appends-then old mid new xs (take front.0 ys) whole front.1))
 
 -- a text behind another one that was sent whole
-Sent-then : {E : Type 0} (old mid new : WriterState) (sent : Result (Unit {0}) E) (xs ys : List ℕ) → WritesWhole old mid xs → Sent mid new sent ys → Sent old new sent (xs ++ ys)
-Sent-then old mid new (Ok u) xs ys first second =
+WasSent-then : {E : Type 0} (old mid new : WriterState) (sent : Result (Unit {0}) E) (xs ys : List ℕ) → WritesWhole old mid xs → WasSent mid new sent ys → WasSent old new sent (xs ++ ys)
+WasSent-then old mid new (Ok u) xs ys first second =
     let before = first.failures in
     let behind = second.failures in
     record { whole = Appends-then old.contents mid.contents new.contents xs ys first.whole second.whole; failures = omega arith }
-Sent-then old mid new (Err e) xs ys first second =
+WasSent-then old mid new (Err e) xs ys first second =
     record {
       front = front_second old.contents mid.contents new.contents xs ys first.whole second.front;
       failures = ≤-Rises old.failures mid.failures new.failures first.failures second.failures;
@@ -49,10 +49,10 @@ Sends-then old mid new (Err e) between sent xs ys first second =
     let S : Result (Unit {0}) _ → Type 0 = λ r. Sends mid r new sent ys in
     let after : Sends mid (Err e) new sent ys = subst S first.0 second in
     (after.0, after.1 ∙ first.1)
-Sends-then old mid new (Ok u) (Ok v) sent xs ys first second = Sent-then old mid new sent xs ys first second
+Sends-then old mid new (Ok u) (Ok v) sent xs ys first second = WasSent-then old mid new sent xs ys first second
 Sends-then old mid new (Ok u) (Err e) sent xs ys first second =
-    let S : Result (Unit {0}) _ → Type 0 = λ r. Sent old new r (xs ++ ys) in
-    let N : WriterState → Type 0 = λ w. Sent old w (Err e) (xs ++ ys) in
+    let S : Result (Unit {0}) _ → Type 0 = λ r. WasSent old new r (xs ++ ys) in
+    let N : WriterState → Type 0 = λ w. WasSent old w (Err e) (xs ++ ys) in
     subst S (sym second.0) (subst N (sym second.1) (record { front = front_first old.contents mid.contents xs ys first.front; failures = first.failures }))
 
 -- two sendings behind what was sent
@@ -76,19 +76,19 @@ pub Sends-no_lines : {E : Type 0} (out : WriterState) (sent : Result (Unit {0}) 
 Sends-no_lines out sent = rw text-nil (Sends-nil out sent)
 
 -- what went out, by how a sending went
-pub Sent-whole : {E : Type 0} (old new : WriterState) (sent : Result (Unit {0}) E) (text : List ℕ) → Sent old new sent text → OnOk sent (Appends old.contents new.contents text)
-Sent-whole old new (Ok u) text did = did.whole
-Sent-whole old new (Err e) text did = tt
+pub WasSent-whole : {E : Type 0} (old new : WriterState) (sent : Result (Unit {0}) E) (text : List ℕ) → WasSent old new sent text → OnOk sent (Appends old.contents new.contents text)
+WasSent-whole old new (Ok u) text did = did.whole
+WasSent-whole old new (Err e) text did = tt
 
-pub Sent-front : {E : Type 0} (old new : WriterState) (sent : Result (Unit {0}) E) (text : List ℕ) → Sent old new sent text → OnErr sent (AppendsFront old.contents new.contents text)
-Sent-front old new (Ok u) text did = tt
-Sent-front old new (Err e) text did = did.front
+pub WasSent-front : {E : Type 0} (old new : WriterState) (sent : Result (Unit {0}) E) (text : List ℕ) → WasSent old new sent text → OnErr sent (AppendsFront old.contents new.contents text)
+WasSent-front old new (Ok u) text did = tt
+WasSent-front old new (Err e) text did = did.front
 
-pub Sent-failed : {E : Type 0} (old new : WriterState) (sent : Result (Unit {0}) E) (text : List ℕ) → Sent old new sent text → OnErr sent (Rises old.failures new.failures)
-Sent-failed old new (Ok u) text did = tt
-Sent-failed old new (Err e) text did = did.failures
+pub WasSent-failed : {E : Type 0} (old new : WriterState) (sent : Result (Unit {0}) E) (text : List ℕ) → WasSent old new sent text → OnErr sent (Rises old.failures new.failures)
+WasSent-failed old new (Ok u) text did = tt
+WasSent-failed old new (Err e) text did = did.failures
 
 -- what four sendings did, of which the first one is that of the whole
-pub Sent-four : {E : Type 0} (old one two three new : WriterState) (first second third sent : Result (Unit {0}) E) (ws xs ys zs : List ℕ) → Sends old (Ok tt) one first ws → Sends one first two second xs → Sends two second three third ys → Sends three third new sent zs → Sent old new sent (((ws ++ xs) ++ ys) ++ zs)
-Sent-four old one two three new first second third sent ws xs ys zs a b c d =
+pub WasSent-four : {E : Type 0} (old one two three new : WriterState) (first second third sent : Result (Unit {0}) E) (ws xs ys zs : List ℕ) → Sends old (Ok tt) one first ws → Sends one first two second xs → Sends two second three third ys → Sends three third new sent zs → WasSent old new sent (((ws ++ xs) ++ ys) ++ zs)
+WasSent-four old one two three new first second third sent ws xs ys zs a b c d =
     Sends-then old three new (Ok tt) third sent ((ws ++ xs) ++ ys) zs (Sends-twice old one two three (Ok tt) first second third ws xs ys a b c) d

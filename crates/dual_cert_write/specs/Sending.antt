@@ -9,13 +9,13 @@ use Rattle.dual_cert_text.specs.Spellings.{line_of_words, name_at, set_word}
 use Rattle.lb_types_counted.specs.Writers.{WriterState, WritesWhole, WritesFront}
 
 -- what a sending did, by how it went
-abbrev pub Sent : {E : Type 0} → WriterState → WriterState → Result (Unit {0}) E → List ℕ → Type 0
-Sent old new (Ok _) text = WritesWhole old new text
-Sent old new (Err e) text = WritesFront old new text
+abbrev pub WasSent : {E : Type 0} → WriterState → WriterState → Result (Unit {0}) E → List ℕ → Type 0
+WasSent old new (Ok _) text = WritesWhole old new text
+WasSent old new (Err e) text = WritesFront old new text
 
 -- what one more sending did, by how those before it went
 abbrev pub Sends : {E : Type 0} → WriterState → Result (Unit {0}) E → WriterState → Result (Unit {0}) E → List ℕ → Type 0
-Sends old (Ok _) new sent text = Sent old new sent text
+Sends old (Ok _) new sent text = WasSent old new sent text
 Sends old (Err e) new sent text = (sent ≡ Err e) × (new ≡ old)
 
 -- the words, with the first one apart

@@ -4,7 +4,7 @@ ghost use Rattle.lb_types_counted.specs.Writers.{AppendsFront, Rises};
 ghost use Rattle.dual_cert_plan.specs.Plans.{IsPlan};
 ghost use Rattle.dual_cert_text.specs.PlanTexts.{needs_costs, plan_of_text};
 ghost use Rattle.dual_cert_text.specs.Spellings.{text_of_lines, server_line, row_line, spelling};
-ghost use Rattle.dual_cert_write.specs.Sending.{Sends, Sent, HasListedSet};
+ghost use Rattle.dual_cert_write.specs.Sending.{Sends, WasSent, HasListedSet};
 
 use crate::WriteFailed;
 use crate::sending::{Sent, send, send_line, send_words};
@@ -36,7 +36,7 @@ pub fn write_plan<W: Write>(plan: &Plan, out: &mut Counted<W>) -> Result<(), Wri
 }
 
 fn send_plan<W: Write>(plan: &Plan, out: &mut Counted<W>) -> Sent
-    ensures sent { Sent out.old out.new result (spelling plan.now) }
+    ensures sent { WasSent out.old out.new result (spelling plan.now) }
     ensures read_back { plan_of_text (spelling plan.now) ≡ Ok plan.now }
 {
     let has_costs = needs_costs(plan.rows());

@@ -9,26 +9,47 @@ use std::io::{BufWriter, ErrorKind, Write};
 use std::process::Abort;
 use std::test::Fail;
 
-const TEXTS: [&str; 13] = [
+/// Plans that are judged as they stand: best ones and refused ones, and the limits of numbers.
+const JUDGED: [&str; 18] = [
     "stickyplan 1\nversion 0\nserver a cap 2 price 0\nend\n",
     "stickyplan 1\nversion 1\nserver a off\nserver b cap 2 price 0\nserver c cap 2 price 0\n\
         row 1 a b b,c\nrow 1 a c b,c\nrow 1 b b b,c\nrow 1 c c b,c\nend\n",
     "stickyplan 1\nversion 1\nserver a off\nserver b cap 1 price 1\nserver c cap 1 price 0\n\
+        row 1 a b b\nrow 1 b c b,c\nend\n",
+    "stickyplan 1\nversion 1\nserver a off\nserver b cap 1 price 0\nserver c cap 1 price 0\n\
         row 1 a b b\nrow 1 b c b,c\nend\n",
     "stickyplan 1\nversion 1\nserver a cap 1 price 1\nserver b cap 10 price 0\n\
         row 1 a a a,b\nrow 2 a b a,b\nend\n",
     "stickyplan 1\nversion 1\nserver a off\nserver b cap 1 price 3\nrow 1 a - b\nrow 1 a b b\nend\n",
     "stickyplan 1\nversion 1\nserver a off\nserver b cap 1 price 2\nrow 1 - - b\nrow 1 a b b\nend\n",
     "stickyplan 1\nversion 1\nserver a off\nserver b off\nrow 3 a - -\nend\n",
+    "stickyplan 1\nversion 1\nserver a cap 0 price 3\nrow 1 a - a\nend\n",
+    "stickyplan 1\nversion 1\nserver a cap 0 price 0\nrow 1 a - a\nend\n",
+    "stickyplan 1\nversion 1\nserver a cap 0 price 3\nrow 1 a a a\nend\n",
     "stickyplan 1\nversion 9223372036854775808\nend\n",
     "stickyplan 1\nversion 1\nserver a cap 4294967295 price 1099511627775\nrow 16777216 a a a\nend\n",
     "stickyplan 2\nversion 1\nserver a cap 1 price 1\nserver b cap 10 price 0\n\
+        row 2 a b a,b 1\nrow 1 a a a,b 5\nend\n",
+    "stickyplan 2\nversion 1\nserver a cap 1 price 6\nserver b cap 10 price 0\n\
         row 2 a b a,b 1\nrow 1 a a a,b 5\nend\n",
     "stickyplan 2\nversion 1\nserver a cap 2 price 2\nserver b cap 10 price 0\n\
         row 1 a b a,b 2\nrow 2 a a a,b 5\nend\n",
     "stickyplan 2\nversion 1\nserver a off\nserver b cap 1 price 1002\nrow 1 a b b 1\nrow 1 a - b 1000\nend\n",
     "stickyplan 1\nversion 7\nserver a off\nserver b cap 1 price 1\nserver c cap 1 price 0\n\
         row 1 a b b\nrow 1 b c b,c\nend\n",
+];
+
+/// Plans for a table of two servers, which are installed or turned away.
+const INSTALLED: [&str; 8] = [
+    "stickyplan 1\nversion 1\nserver a cap 5 price 0\nserver b cap 5 price 0\nrow 1 a a a,b\nend\n",
+    "stickyplan 1\nversion 2\nserver a cap 5 price 0\nserver b cap 5 price 0\n\
+        row 1 a a a,b\nrow 1 b b a,b\nend\n",
+    "stickyplan 1\nversion 2\nserver a cap 5 price 0\nserver b cap 5 price 0\nrow 2 a a a,b\nend\n",
+    "stickyplan 1\nversion 4\nserver a cap 5 price 0\nserver b cap 5 price 0\nrow 1 a b b\nend\n",
+    "stickyplan 1\nversion 2\nserver a off\nserver b cap 5 price 0\nrow 1 a b b\nend\n",
+    "stickyplan 1\nversion 2\nserver a off\nserver b cap 5 price 1\nrow 1 a b b\nend\n",
+    "stickyplan 1\nversion 2\nserver a off\nserver b cap 4 price 0\nrow 1 a b b\nend\n",
+    "stickyplan 1\nversion 9\nserver a off\nserver b cap 5 price 1\nrow 1 a b b\nend\n",
 ];
 
 /// A writer that takes at most `at_most` bytes a write, and from write number `writes` on does as `then` says.
@@ -86,7 +107,7 @@ fn written(alloc: Global, text: &str) -> Result<Vec<u8>, Fail> {
 
 #[test]
 fn a_plan_is_written_as_it_was_read(rt: HostRuntime) -> Result<(), Fail> {
-    for text in TEXTS {
+    for text in JUDGED {
         assert_eq!(rt;
             written(rt.alloc(), text)?.as_slice(),
             text.as_bytes(),
@@ -96,11 +117,28 @@ fn a_plan_is_written_as_it_was_read(rt: HostRuntime) -> Result<(), Fail> {
     Ok(())
 }
 
-/// A plan's text of servers `s1` to `s<count>` with a capacity, and these lines behind them.
-fn text_of_servers(alloc: Global, count: u32, lines: &str) -> Result<String, AllocError> {
+#[test]
+fn a_plan_to_install_is_written_as_it_was_read(rt: HostRuntime) -> Result<(), Fail> {
+    for text in INSTALLED {
+        assert_eq!(rt;
+            written(rt.alloc(), text)?.as_slice(),
+            text.as_bytes(),
+            "{text}"
+        );
+    }
+    Ok(())
+}
+
+/// A plan's text of servers `s1` to `s<count>`, each with this usage, and these lines behind them.
+fn text_of_servers(
+    alloc: Global,
+    count: u32,
+    usage: &str,
+    lines: &str,
+) -> Result<String, AllocError> {
     let mut text = String::from_str(alloc, "stickyplan 1\nversion 1\n")?;
     for number in 1..=count {
-        let line = format!(in alloc; "server s{number} cap 1 price 0\n")?;
+        let line = format!(in alloc; "server s{number} {usage}\n")?;
         text.push_str(&line)?;
     }
     text.push_str(lines)?;
@@ -110,7 +148,17 @@ fn text_of_servers(alloc: Global, count: u32, lines: &str) -> Result<String, All
 #[test]
 fn sets_of_128_servers_are_written_in_their_order(rt: HostRuntime) -> Result<(), Fail> {
     let lines = "row 1 - s64 s64,s65,s128\nrow 2 s128 - s1,s128\nend\n";
-    let text = text_of_servers(rt.alloc(), 128, lines)?;
+    let text = text_of_servers(rt.alloc(), 128, "cap 1 price 0", lines)?;
+    assert_eq!(rt; written(rt.alloc(), &text)?.as_slice(), text.as_bytes());
+    Ok(())
+}
+
+#[test]
+fn the_last_of_128_servers_is_written_behind_those_that_are_off(
+    rt: HostRuntime,
+) -> Result<(), Fail> {
+    let lines = "server s128 cap 1 price 0\nrow 1 - s128 s128\nend\n";
+    let text = text_of_servers(rt.alloc(), 127, "off", lines)?;
     assert_eq!(rt; written(rt.alloc(), &text)?.as_slice(), text.as_bytes());
     Ok(())
 }
@@ -173,7 +221,7 @@ fn writes_needed(
 
 #[test]
 fn a_failed_write_leaves_a_beginning_of_the_text(rt: HostRuntime) -> Result<(), Fail> {
-    for text in TEXTS {
+    for text in JUDGED {
         for then in [Then::Fails, Then::TakesNothing] {
             let whole = writes_needed(&rt, rt.alloc(), text, usize::MAX, then)?;
             assert!(rt; whole < text.len());
@@ -187,7 +235,7 @@ fn a_failed_write_leaves_a_beginning_of_the_text(rt: HostRuntime) -> Result<(), 
 
 #[test]
 fn a_buffered_writer_gets_the_same_bytes(rt: HostRuntime) -> Result<(), Fail> {
-    let text = TEXTS[1];
+    let text = JUDGED[1];
     let plan = read_plan(rt.alloc(), text.as_bytes())?;
     let mut bytes = Vec::new(rt.alloc());
     let mut out = Counted::new(BufWriter::with_capacity(rt.alloc(), 16, &mut bytes)?);

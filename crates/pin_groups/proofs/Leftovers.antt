@@ -1,8 +1,8 @@
 -- Pins are spread over rows one by one: what is left of the rows is always for the pins to come.
-use Rattle.std.proofs.Common.{◌≡◌, ◌⊎◌, ℕ, zero, suc, ◌+◌, ◌-◌, ◌<◌, ◌≤◌, Bool, true, false, cond, Option, List, [], ◌∷◌, ◌++◌, map, length, get_or, set, drop, count_by, refl, sym, ap, ◌∙◌, inl, inr, arith}
+use Rattle.std.proofs.Common.{◌≡◌, ◌⊎◌, ℕ, zero, suc, ◌+◌, ◌-◌, ◌<◌, ◌≤◌, Bool, true, false, cond, Option, List, [], ◌∷◌, ◌++◌, map, length, get_or, set, replicate, drop, count_by, refl, sym, ap, ◌∙◌, inl, inr, arith}
 use Rattle.std.specs.List.{sum_by, zip}
 use Rattle.std.proofs.lemmas.Bool.{and_parts, cases_eq, cases_lt}
-use Rattle.std.proofs.lemmas.List.{drop_more, drop_all, length-set, length-map, get_or_default}
+use Rattle.std.proofs.lemmas.List.{drop_more, drop_all, length-set, length-map, length-replicate, get_or_default, get_or_past, get_or-replicate, get_or-set_same, get_or-set_other}
 use Rattle.std.proofs.lemmas.List.Sums.{sum_by-cons}
 use Rattle.std.specs.List.Sorted.{IsPartitionedBy}
 use Rattle.lb_types_pins.specs.declared.kind.PinKind.{PinKind}
@@ -12,7 +12,7 @@ use Rattle.lb_types_pins.proofs.Order.{same_kind-true, same_kind-refl, kind_befo
 use Rattle.dual_cert_plan.specs.Plans.{groups_of}
 use Rattle.dual_cert_plan.proofs.OwnSheet.{pins-groups_of}
 use Rattle.pin_set.specs.Rows.{AreGroupsOf, is_move, Agrees}
-use Rattle.pin_groups.specs.Leftovers.{AreRisingRows, is_of, sends, left_in, IsSpread}
+use Rattle.pin_groups.specs.Leftovers.{AreRisingRows, AreUsedUp, is_of, sends, left_in, IsSpread}
 
 -- ---- rows in rising order
 
@@ -124,33 +124,42 @@ kind_behind rows kind at k d rising from below behind other =
     ] in
     go (same_kind kind b) refl
 
--- The first row with pins left from the first row of the kind on is one of the kind, if the kind has pins left at all.
-pub found_row : (rows : List Row) (left : List ℕ) (kind : PinKind) (first at : ℕ) → AreRisingRows rows → length left ≡ length rows
+-- rows of earlier kinds have no pins of this kind
+before_first : (rows : List Row) (left : List ℕ) (kind : PinKind) (first : ℕ)
     → ((k : ℕ) (d : Row) → k < first → kind_before (get_or rows k d).kind kind ≡ true)
-    → ((k : ℕ) (d : Row) → first ≤ k → k < length rows → kind_before (get_or rows k d).kind kind ≡ false)
-    → first ≤ at → at ≤ length left
-    → ((k : ℕ) → first ≤ k → k < at → get_or left k 0 ≡ 0) → 1 ≤ left_in (is_of kind) rows left
-    → (at < length rows) × ((d : Row) → (get_or rows at d).kind ≡ kind)
-found_row rows left kind first at rising whole before behind from_first until skipped some =
-    let early : (k : ℕ) (d : Row) → k < first → same_kind kind (get_or rows k d).kind ≡ true → get_or left k 0 ≡ 0 =
-    λ k d low same.
+    → (k : ℕ) (d : Row) → k < first → same_kind kind (get_or rows k d).kind ≡ true → get_or left k 0 ≡ 0
+before_first rows left kind first before k d low same =
     let alike : kind ≡ (get_or rows k d).kind = same_kind-true kind (get_or rows k d).kind same in
     let earlier : kind_before kind kind ≡ true = ap (λ (x : PinKind). kind_before x kind) alike ∙ before k d low in
-    absurd (omega (arith, both (kind_before kind kind) (kind_before-irrefl kind) earlier)) in
-    let within : at < length rows =
+    absurd (omega (arith, both (kind_before kind kind) (kind_before-irrefl kind) earlier))
+
+-- A kind that has pins left has them behind the rows that are used up, so there is a row.
+pub goes_on : (rows : List Row) (left : List ℕ) (kind : PinKind) (first at : ℕ) → length left ≡ length rows
+    → ((k : ℕ) (d : Row) → k < first → kind_before (get_or rows k d).kind kind ≡ true)
+    → ((k : ℕ) → first ≤ k → k < at → get_or left k 0 ≡ 0) → 1 ≤ left_in (is_of kind) rows left → at < length rows
+goes_on rows left kind first at whole before skipped some =
     elim (cases_lt at (length rows)) [
       | inl below ↦ below
       | inr past ↦
           let none = left_in-none (is_of kind) rows left whole (λ k d inside same. elim (cases_lt k first) [
-            | inl low ↦ early k d low same
+            | inl low ↦ before_first rows left kind first before k d low same
             | inr from ↦ skipped k (omega arith) (omega arith)
           ]) in
           absurd (omega arith)
-    ] in
+    ]
+
+-- The first row with pins left from the first row of the kind on is one of the kind, if the kind has pins left at all.
+pub found_row : (rows : List Row) (left : List ℕ) (kind : PinKind) (first at : ℕ) → AreRisingRows rows → length left ≡ length rows
+    → ((k : ℕ) (d : Row) → k < first → kind_before (get_or rows k d).kind kind ≡ true)
+    → ((k : ℕ) (d : Row) → first ≤ k → k < length rows → kind_before (get_or rows k d).kind kind ≡ false)
+    → first ≤ at → ((k : ℕ) → first ≤ k → k < at → get_or left k 0 ≡ 0) → 1 ≤ left_in (is_of kind) rows left
+    → (at < length rows) × ((d : Row) → (get_or rows at d).kind ≡ kind)
+found_row rows left kind first at rising whole before behind from_first skipped some =
+    let within : at < length rows = goes_on rows left kind first at whole before skipped some in
     let is_one : (e : Row) → same_kind kind (get_or rows at e).kind ≡ true =
     λ e. decided (same_kind kind (get_or rows at e).kind) (λ other.
     let none = left_in-none (is_of kind) rows left whole (λ k d inside same. elim (cases_lt k first) [
-      | inl low ↦ early k d low same
+      | inl low ↦ before_first rows left kind first before k d low same
       | inr from ↦ elim (cases_lt k at) [
         | inl below ↦ skipped k (omega arith) below
         | inr past ↦
@@ -165,6 +174,58 @@ found_row rows left kind first at rising whole before behind from_first until sk
     decided : (b : Bool) → (b ≡ false → 1 ≤ 0) → b ≡ true
     decided true never = refl
     decided false never = absurd (omega (arith, never refl))
+
+-- ---- the rows that are used up
+
+all_zeros : (n i : ℕ) → ◌≡◌ {A = ℕ} (get_or (replicate n 0) i 0) 0
+all_zeros n i =
+    elim (cases_lt i n) [
+      | inl within ↦ get_or-replicate n i 0 0 within
+      | inr past ↦ get_or_past (replicate n 0) i 0 (omega (arith, length-replicate {A = ℕ} n 0))
+    ]
+
+pub used_up-start : (left : List ℕ) (n : ℕ) → length left ≡ n → AreUsedUp left (replicate n 0)
+used_up-start left n long = record {
+  whole = omega (arith, long, length-replicate {A = ℕ} n 0);
+  none = λ row k late below. absurd (omega (arith, all_zeros n row));
+}
+
+-- from the first row of the kind up to the one that is found nothing is left, where the walk began at the mark or behind it
+pub passed_over : (left used_to : List ℕ) (first from at : ℕ) → AreUsedUp left used_to
+    → ((k : ℕ) → first ≤ k → get_or used_to first 0 ≤ k → from ≤ k) → ((k : ℕ) → from ≤ k → k < at → get_or left k 0 ≡ 0)
+    → (k : ℕ) → first ≤ k → k < at → get_or left k 0 ≡ 0
+passed_over left used_to first from at used begun walked k late below =
+    elim (cases_lt k (get_or used_to first 0)) [
+      | inl low ↦ used.none first k late low
+      | inr high ↦ walked k (begun k late (omega arith)) below
+    ]
+
+-- the mark of the first row is put at the row that is found
+pub used_up-more : (left used_to : List ℕ) (first at : ℕ) → AreUsedUp left used_to → first < length used_to
+    → ((k : ℕ) → first ≤ k → k < at → get_or left k 0 ≡ 0) → AreUsedUp left (set used_to first at)
+used_up-more left used_to first at used within skipped = record {
+  whole = length-set used_to first at ∙ used.whole;
+  none = λ row k late below.
+      elim (cases_eq row first) [
+        | inl same ↦
+            let mark : get_or (set used_to first at) row 0 ≡ at =
+            ap (λ n. get_or (set used_to first at) n 0) same ∙ get_or-set_same used_to first at 0 within in
+            skipped k (omega (arith, same)) (omega (arith, mark))
+        | inr other ↦ used.none row k late (omega (arith, get_or-set_other used_to first row at 0 other))
+      ];
+}
+
+-- a pin of a row that has some left is given its place
+pub used_up-less : (left used_to : List ℕ) (at n : ℕ) → AreUsedUp left used_to → 1 ≤ get_or left at 0
+    → AreUsedUp (set left at n) used_to
+used_up-less left used_to at n used some = record {
+  whole = used.whole ∙ sym (length-set left at n);
+  none = λ row k late below.
+      elim (cases_eq k at) [
+        | inl same ↦ absurd (omega (arith, used.none row k late below, ap (λ m. get_or left m 0) same))
+        | inr other ↦ get_or-set_other left at k n 0 other ∙ used.none row k late below
+      ];
+}
 
 -- ---- the places, one by one
 

@@ -1,7 +1,7 @@
 ghost use Rattle.std.specs.Prelude.{◌≡◌, ◌^◌, ◌≤◌, IfOk, sum_by, if◌then◌else◌};
 ghost use Rattle.lb_types_pins.specs.declared.kind.PinKind.{PinKind as AnyKind};
 ghost use Rattle.lb_types_pins.specs.Kinds.{same_kind};
-ghost use Rattle.dual_cert_plan.specs.Sheets.{SheetParts};
+ghost use Rattle.dual_cert_plan.specs.Sheets.{SheetParts, IsSheet};
 ghost use Rattle.pin_set.specs.Rows.{count_in};
 ghost use Rattle.pin_set.specs.Views.{ViewParts};
 ghost use Rattle.pin_groups_sheet.specs.Sheets.{StandsFor};
@@ -28,7 +28,8 @@ pub struct PinCount {
 
 /// The sheet of a view that is known by its counts: counts whose permitted sets are equal make one group.
 ///
-/// Each count is looked up among the groups so far, by binary search. Memory for as many groups as there are kinds.
+/// Each count is looked up among the groups so far, by binary search, and a new group moves those of later kinds. Memory for as
+/// many groups as there are kinds.
 pub fn sheet_of(
     alloc: Global,
     counts: &[PinCount],
@@ -39,6 +40,7 @@ pub fn sheet_of(
     requires version { version ≤ 2 ^ 63 }
     requires counts { AreOfSomeView usable servers.now counts.now }
     ensures version { IfOk result (λ sheet. sheet.version ≡ version) }
+    ensures lawful { IfOk result (λ sheet. IsSheet sheet) }
     ensures exact { IfOk result (λ sheet. (view : ViewParts) → HasCounts usable servers.now counts.now view
         → StandsFor sheet view) }
 {

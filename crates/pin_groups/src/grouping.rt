@@ -15,7 +15,8 @@ use std::alloc::{AllocError, Global};
 
 /// The sheet of a view: its servers, and how many pins it has of each kind. `version` is the table's, at most 2^63.
 ///
-/// Each pin is looked up among the groups so far, by binary search. Memory for as many groups as there are kinds.
+/// Each pin is looked up among the groups so far, by binary search, and a new group moves those of later kinds. Memory for as
+/// many groups as there are kinds.
 pub fn group(alloc: Global, view: &View, version: u64) -> Result<Sheet, AllocError>
     requires { version ≤ 2 ^ 63 }
     ensures version { IfOk result (λ sheet. sheet.version ≡ version) }
@@ -27,7 +28,11 @@ pub fn group(alloc: Global, view: &View, version: u64) -> Result<Sheet, AllocErr
     Ok(Sheet::new(version, servers, groups))
 }
 
-fn groups_of(alloc: Global, usable: ServerSet, pins: &[Pin]) -> Result<Vec<Group>, AllocError>
+pub(crate) fn groups_of(
+    alloc: Global,
+    usable: ServerSet,
+    pins: &[Pin],
+) -> Result<Vec<Group>, AllocError>
     requires { length pins.now ≤ 16777216 }
     ensures rising { IfOk result (λ groups. AreRising groups.items) }
     ensures counts { IfOk result (λ groups. AreGroupsOf groups.items (map (kind_of usable) pins.now)) }

@@ -4,7 +4,7 @@ ghost use Rattle.lb_types_pins.specs.Kinds.{kind_before};
 ghost use Rattle.dual_cert_plan.specs.Plans.{groups_of};
 ghost use Rattle.pin_set.specs.Rows.{AreGroupsOf, Agrees};
 ghost use Rattle.pin_set.specs.Views.{kind_of, kinds_of};
-ghost use Rattle.pin_groups.specs.Leftovers.{AreRisingRows, is_of, left_in};
+ghost use Rattle.pin_groups.specs.Leftovers.{AreRisingRows, AreUsedUp, is_of, left_in};
 
 use crate::grouping::kind_of;
 use dual_cert_plan::Plan;
@@ -17,9 +17,9 @@ use std::alloc::{AllocError, Global};
 /// place. The plan must be one for a sheet of this view. A pin stays where it is as long as the plan keeps pins of its
 /// kind there.
 ///
-/// Each pin is looked up among the plan's rows by binary search. One that moves then passes over the used-up rows of its
-/// kind, which has at most a row for each server and one for none. Memory for the places and for a number a row, asked for
-/// first.
+/// Time grows with the pins times the logarithm of the rows, and with the rows: each pin is looked up among the rows by binary
+/// search, and one that moves starts where the last one of its kind found a row, so that together they pass over each row once.
+/// Memory for the places and for two numbers a row, asked for first.
 pub fn spread(alloc: Global, view: &View, plan: &Plan) -> Result<Vec<Place>, AllocError>
     requires { AreGroupsOf (groups_of plan.now.rows) (kinds_of view.now) }
     ensures { IfOk result (λ places. Agrees plan.now.rows (kinds_of view.now) places.items) }
@@ -38,9 +38,10 @@ pub(crate) fn spread_pins(
     ensures { IfOk result (λ places. Agrees rows.now (map (kind_of usable) pins.now) places.items) }
 {
     let mut left = counts(alloc, rows)?;
+    let mut used_to = vec![in alloc; 0; rows.len()]?;
     let mut places = Vec::with_capacity(alloc, pins.len())?;
     for pin in pins {
-        let at = row_for(rows, &left, kind_of(usable, pin));
+        let at = row_for(rows, &left, &mut used_to, kind_of(usable, pin));
         left[at] -= 1;
         places.push(rows[at].new_place)?;
     }
@@ -54,13 +55,18 @@ fn counts(alloc: Global, rows: &[Row]) -> Result<Vec<u32>, AllocError>
 }
 
 /// A row that has a pin of this kind left: the one that keeps the pin in place, if it has, and else the first one.
-fn row_for(rows: &[Row], left: &[u32], kind: PinKind) -> usize
+///
+/// At the first row of each kind, `used_to` has a row before which the kind has no pins left. It is moved on to the row that is
+/// found, so that no later call for this kind passes over the same rows.
+fn row_for(rows: &[Row], left: &[u32], used_to: &mut [usize], kind: PinKind) -> usize
     requires rising { AreRisingRows rows.now }
     requires whole { length left.now ≡ length rows.now }
+    requires used_up { AreUsedUp left.now used_to.old }
     requires some { 1 ≤ left_in (is_of kind) rows.now left.now }
     ensures within { result < length rows.now }
     ensures kind { (d : AnyRow) → (slice_index_or rows.now result d).kind ≡ kind }
     ensures some { 1 ≤ slice_index_or left.now result 0 }
+    ensures used_up { AreUsedUp left.now used_to.new }
 {
     let stay = Row {
         kind,
@@ -75,7 +81,10 @@ fn row_for(rows: &[Row], left: &[u32], kind: PinKind) -> usize
     {
         return at;
     }
-    first_left(left, first_of(rows, kind))
+    let first = first_of(rows, kind);
+    let at = first_left(left, used_to[first].max(first));
+    used_to[first] = at;
+    at
 }
 
 /// Where the rows of a kind begin, or would have to.

@@ -1,6 +1,8 @@
 ghost use Rattle.std.specs.Prelude.{◌≡◌, Some, None, [], ◌∷◌, map, IfOk};
 ghost use Rattle.pin_set.specs.Views.{kind_of};
 
+use crate::grouping::groups_of;
+use crate::listed::listed_servers;
 use crate::spreading::{first_left, spread_pins};
 use crate::{PinCount, group, sheet_of, spread};
 use dual_cert_plan::{Plan, PricedServer, Server};
@@ -30,6 +32,47 @@ fn a_sheet_has_a_group_for_each_place_and_cost_in_rising_order(
     let a = ServerId::new(0);
     let groups = [one_group(None, 7, 1), one_group(Some(a), 3, 2)];
     assert_eq!(rt; sheet.groups(), groups.as_slice());
+    Ok(())
+}
+
+// Of three servers the second isn't usable. A pin that wants it may go to both others, as one that wants none may.
+#[test]
+fn a_sheet_has_the_capacities_of_usable_servers_and_a_group_for_each_permitted_set(
+    rt: HostRuntime,
+) -> Result<(), Fail> {
+    let a = ServerId::new(0);
+    let none = ServerSet::empty();
+    let only_a = none.with(a);
+    let only_b = none.with(ServerId::new(1));
+    let usable = only_a.with(ServerId::new(2));
+    let (name_a, name_b, name_c) = (Name::read(b"a")?, Name::read(b"b")?, Name::read(b"c")?);
+    let servers = vec![in rt.alloc();
+        view_server(name_a, 7),
+        view_server(name_b, 8),
+        view_server(name_c, 9),
+    ]?;
+    let listed = listed_servers(rt.alloc(), usable, &servers)?;
+    let capacities = listed
+        .iter()
+        .map(|server| server.capacity)
+        .collect::<Vec<Option<u32>>>(rt.alloc())?;
+    assert_eq!(rt; capacities.as_slice(), [Some(7), None, Some(9)].as_slice());
+    let pins = vec![in rt.alloc();
+        pin(Some(a), none, 1),
+        pin(Some(a), only_a, 1),
+        pin(Some(a), only_b, 1),
+    ]?;
+    let groups = groups_of(rt.alloc(), usable, &pins)?;
+    let wanted = [(only_a, 1), (usable, 2)];
+    assert_eq!(rt; groups.len(), wanted.len());
+    for (group, (permitted, count)) in groups.iter().zip(wanted) {
+        let kind = PinKind {
+            place: Some(a),
+            permitted,
+            cost: 1,
+        };
+        assert_eq!(rt; *group, Group { kind, count });
+    }
     Ok(())
 }
 
@@ -89,6 +132,10 @@ fn the_first_row_with_pins_left_is_found_from_a_place_on(rt: HostRuntime) {
     assert_eq!(rt; first_left(&left, 0), 0);
     assert_eq!(rt; first_left(&left, 1), 3);
     assert_eq!(rt; first_left(&left, 4), 5);
+}
+
+fn view_server(name: Name, capacity: u32) -> ViewServer {
+    ViewServer { name, capacity }
 }
 
 /// A view of a server a that is not usable, with two pins at it that want different servers and one that has no server.

@@ -2,7 +2,7 @@ use Rattle.std.proofs.Common.{refl}
 use Rattle.dual_cert_sheet.proofs.SheetLaws.{sheet_again}
 use Rattle.dual_cert_sheet.specs.SheetTexts.{sheet_of_text}
 use Rattle.dual_cert_sheet_write.proofs.SheetLines.{sheet_spelling_parts, few_servers, sets_listed}
-use Rattle.dual_cert_write.proofs.Sends.{Sent-four}
+use Rattle.dual_cert_write.proofs.Sends.{WasSent-four}
 use Rattle.dual_cert_sheet_write.proofs.sheet_text.send_sheet.Goals as goal
 
 pub send_groups-sent-requires-clause-few : goal.send_groups-sent-requires-clause-few
@@ -17,7 +17,7 @@ returns-clause-sent g c =
     let heading = rw (costs, c.version.ensures) at c.send_heading-sent.ensures in
     let servers = rw c.servers.ensures.exact at c.send_servers-sent.ensures in
     let groups = rw (costs, c.servers-2.ensures.exact, c.groups-2.ensures.exact) at c.send_groups-sent.ensures in
-    rw sheet_spelling_parts (Sent-four _ _ _ _ _ _ _ _ _ _ _ _ _ heading servers groups c.send.ensures)
+    rw sheet_spelling_parts (WasSent-four _ _ _ _ _ _ _ _ _ _ _ _ _ heading servers groups c.send.ensures)
 
 pub returns-clause-read_back : goal.returns-clause-read_back
 unfolding sheet_of_text

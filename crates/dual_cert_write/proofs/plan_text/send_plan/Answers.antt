@@ -2,7 +2,7 @@ use Rattle.std.proofs.Common.{refl}
 use Rattle.dual_cert_text.proofs.PlanLaws.{plan_again}
 use Rattle.dual_cert_text.specs.PlanTexts.{plan_of_text}
 use Rattle.dual_cert_write.proofs.Lines.{spelling_parts, few_servers, sets_listed}
-use Rattle.dual_cert_write.proofs.Sends.{Sent-four}
+use Rattle.dual_cert_write.proofs.Sends.{WasSent-four}
 use Rattle.dual_cert_write.proofs.plan_text.send_plan.Goals as goal
 
 pub send_rows-sent-requires-clause-few : goal.send_rows-sent-requires-clause-few
@@ -17,7 +17,7 @@ returns-clause-sent g c =
     let heading = rw (costs, c.version.ensures) at c.send_heading-sent.ensures in
     let servers = rw c.servers.ensures.exact at c.send_servers-sent.ensures in
     let rows = rw (costs, c.servers-2.ensures.exact, c.rows-2.ensures.exact) at c.send_rows-sent.ensures in
-    rw spelling_parts (Sent-four _ _ _ _ _ _ _ _ _ _ _ _ _ heading servers rows c.send.ensures)
+    rw spelling_parts (WasSent-four _ _ _ _ _ _ _ _ _ _ _ _ _ heading servers rows c.send.ensures)
 
 pub returns-clause-read_back : goal.returns-clause-read_back
 unfolding plan_of_text

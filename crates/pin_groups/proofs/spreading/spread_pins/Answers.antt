@@ -1,15 +1,21 @@
-use Rattle.std.proofs.Common.{◌≡◌, ◌<◌, ◌≤◌, List, [], ◌∷◌, ◌++◌, length, get_or, map, refl, sym, ap, subst, ◌∙◌, arith}
-use Rattle.std.proofs.lemmas.List.{length-map, get_or_default}
+use Rattle.std.proofs.Common.{◌≡◌, ◌-◌, ◌<◌, ◌≤◌, List, [], ◌∷◌, ◌++◌, length, get_or, set, map, refl, sym, ap, subst, ◌∙◌, arith}
+use Rattle.std.proofs.lemmas.List.{length-map, get_or_default, with_items_is}
 use Rattle.std.proofs.Math.ListN.{get_or-map}
 use Rattle.std.proofs.Common.{ℕ}
 use Rattle.lb_types_pins.specs.declared.kind.Row.{Row}
 use Rattle.pin_set.specs.Views.{kind_of}
-use Rattle.pin_groups.proofs.Leftovers.{length_more, spread_start, next_left, spread_step, spread_end}
+use Rattle.pin_groups.specs.Leftovers.{AreUsedUp}
+use Rattle.pin_groups.proofs.Leftovers.{length_more, used_up-start, used_up-less, spread_start, next_left, spread_step, spread_end}
 use Rattle.pin_groups.proofs.spreading.spread_pins.Goals as goal
 
 pub loop-pin-init : goal.loop-pin-init
-loop-pin-init c = rw (c.in_ok-left.ensures, c.in_ok-places.ensures.items)
-    (refl, spread_start c.args.rows.now (map (kind_of c.args.usable) c.args.pins.now) c.requires.counts)
+loop-pin-init c =
+    let rows = c.args.rows.now in
+    let counts = map (λ (r : Row). r.count) rows in
+    let marks = subst (λ (marks : List ℕ). AreUsedUp counts marks) (sym (c.in_ok-used_to.ensures.items_if_clones_equal (λ y same. same)))
+    (used_up-start counts (length rows) (length-map rows (λ (r : Row). r.count))) in
+    rw (c.in_ok-left.ensures, c.in_ok-places.ensures.items)
+    (refl, spread_start rows (map (kind_of c.args.usable) c.args.pins.now) c.requires.counts, marks)
 
 pub row_for-at-requires-clause-some : goal.row_for-at-requires-clause-some
 row_for-at-requires-clause-some c =
@@ -56,7 +62,12 @@ loop-pin-preserved c =
     let read : c.push.new.self.items ≡ c.loop-pin.places.items ++ (get_or rows at row).new_place ∷ [] = c.push.ensures.items ∙ rw c.in_ok-push.was refl in
     let items : c.push.new.self.items ≡ c.loop-pin.places.items ++ row.new_place ∷ [] =
     read ∙ ap (λ (r : Row). c.loop-pin.places.items ++ r.new_place ∷ []) (sym c.index-rows-at.is) in
-    rw items (omega (arith, c.loop-pin.invariant.0, length_more c.loop-pin.places.items row.new_place), step)
+    let used_up = subst (λ (xs : List ℕ). AreUsedUp xs c.row_for-at.new.used_to) c.deref.ensures.value c.row_for-at.ensures.used_up in
+    let back = with_items_is c.loop-pin.used_to c.row_for-at.new.used_to
+    (omega (arith, used_up.whole, c.loop-pin.invariant.2.whole, c.loop-pin.used_to.ok.0)) in
+    let marks = subst (λ (xs : List ℕ). AreUsedUp (set left at (n - 1)) xs) (sym back)
+    (used_up-less left c.row_for-at.new.used_to at (n - 1) used_up some_left) in
+    rw items (omega (arith, c.loop-pin.invariant.0, length_more c.loop-pin.places.items row.new_place), step, marks)
 
 pub returns : goal.returns
 returns c =
