@@ -193,12 +193,30 @@ fn prices_are_nought_where_there_is_room_or_no_pin(rt: HostRuntime) -> Result<()
     Ok(())
 }
 
+// A push moves as many pins as the narrowest arc of its way, the room at its end and the pins over the capacity allow.
 #[test]
 fn a_million_pins_are_moved_in_eight_pushes_at_most(rt: HostRuntime) -> Result<(), Fail> {
-    let text = "stickysheet 1\nversion 1\nserver a off\nserver b cap 600000\nserver c cap 600000\n\
-        group 1000000 a b,c\nend\n";
-    let planned = planned(rt.alloc(), text)?;
-    assert!(rt; planned.pushes() <= 8);
+    let sheets = [
+        // There is room where the pins are placed first.
+        "stickysheet 1\nversion 1\nserver a off\nserver b cap 600000\nserver c cap 600000\n\
+            group 1000000 a b,c\nend\n",
+        // All have to go, and half of them.
+        "stickysheet 2\nversion 1\nserver a cap 0\ngroup 16777216 a a 1000\nend\n",
+        "stickysheet 2\nversion 1\nserver a cap 8388608\nserver b off\ngroup 16777216 a a 1000\nend\n",
+        // The room at the end of a way is less than the pins that have to go: a third goes to each server, and to none.
+        "stickysheet 1\nversion 1\nserver a cap 0\nserver b cap 1000000\nserver c cap 1000000\n\
+            group 3000000 a a,b,c\nend\n",
+        // A million pins at b make way for those of a, and as many at c for those of b.
+        "stickysheet 1\nversion 1\nserver a cap 0\nserver b cap 1000000\nserver c cap 1000000\n\
+            server d cap 1000000\ngroup 1000000 a b\ngroup 1000000 b b,c\ngroup 1000000 c c,d\nend\n",
+        // Of the pins at b that make way for those of a, half may go to c and half to d: two ways, each half as wide.
+        "stickysheet 1\nversion 1\nserver a cap 0\nserver b cap 1000000\nserver c cap 900000\n\
+            server d cap 900000\ngroup 1000000 a b\ngroup 500000 b b,c\ngroup 500000 b b,d\nend\n",
+    ];
+    for sheet in sheets {
+        let pushes = planned(rt.alloc(), sheet)?.pushes();
+        assert!(rt; pushes <= 8, "{pushes} pushes of {sheet}");
+    }
     Ok(())
 }
 
