@@ -53,6 +53,25 @@ fn there_and_back_again_is_a_change(rt: HostRuntime) -> Result<(), Fail> {
     play(&rt, rt.alloc(), &mut machine, &rows)
 }
 
+// No sheet shows the capacity of a server that drains, so both plans have the same sheet but for its version.
+#[test]
+fn a_capacity_that_no_sheet_shows_is_a_change(rt: HostRuntime) -> Result<(), Fail> {
+    let before =
+        "stickyplan 1\nversion 2\nserver a off\nserver b cap 5 price 0\nrow 1 a b b\nend\n";
+    let after = "stickyplan 1\nversion 3\nserver a off\nserver b cap 5 price 0\nrow 1 a b b\nend\n";
+    let rows = [
+        (serve(0, "k1"), MADE_A),
+        (DRAIN_A, Said::Done),
+        (Ask::Snapshot, Said::Sheet(2, 1)),
+        (Ask::Set(A, Setting::MaxPins(3)), Said::Done),
+        (Ask::Install(before), STALE),
+        (Ask::Snapshot, Said::Sheet(3, 1)),
+        (Ask::Install(after), installed(1, 0, 1)),
+    ];
+    let mut machine = two().machine(rt.alloc())?;
+    play(&rt, rt.alloc(), &mut machine, &rows)
+}
+
 #[test]
 fn a_plan_that_moves_is_stale_the_second_time(rt: HostRuntime) -> Result<(), Fail> {
     let plan = "stickyplan 1\nversion 2\nserver a off\nserver b cap 5 price 0\nrow 1 a b b\nend\n";

@@ -58,16 +58,18 @@ fn admin_states_and_health_change_the_view_where_the_usable_servers_change(
         (MAINT_A, 1),
         (READY_A, 2),
         (READY_A, 2),
-        (Ask::Check(A, false), 3),
-        (Ask::Check(A, false), 3),
-        // It is down already.
         (DRAIN_A, 3),
-        (READY_A, 3),
-        (Ask::Check(A, true), 3),
-        (Ask::Check(A, true), 4),
-        (Ask::Set(A, Setting::Health(true)), 4),
-        (Ask::Set(A, Setting::Health(false)), 5),
+        (READY_A, 4),
+        (Ask::Check(A, false), 5),
+        (Ask::Check(A, false), 5),
+        // It is down already.
+        (DRAIN_A, 5),
+        (READY_A, 5),
+        (Ask::Check(A, true), 5),
+        (Ask::Check(A, true), 6),
         (Ask::Set(A, Setting::Health(true)), 6),
+        (Ask::Set(A, Setting::Health(false)), 7),
+        (Ask::Set(A, Setting::Health(true)), 8),
     ];
     let mut machine = two().machine(rt.alloc())?;
     count(&rt, rt.alloc(), &mut machine, &rows)
