@@ -243,6 +243,7 @@ fn compare_least(
     Ok(())
 }
 
+// Weights are of no account.
 #[test]
 fn the_first_with_a_free_connection_is_taken_and_the_cursor_stays(
     rt: HostRuntime,
@@ -250,7 +251,7 @@ fn the_first_with_a_free_connection_is_taken_and_the_cursor_stays(
     for (count, farms) in [(0usize, 1u32), (1, 9), (2, 81), (3, 729)] {
         for number in 0..farms * 8 {
             let sketch = |kind: u32| Sketch {
-                weight: 1,
+                weight: (kind % 4) as u8,
                 limit: (kind % 3) as u8,
                 open: (kind / 3 % 3) as u8,
             };
