@@ -1,7 +1,7 @@
 -- When a check's response is a success: HAProxy Configuration Manual 2.8, `option httpchk`, statuses 2xx and 3xx; the head is
 -- RFC 9112's as httparse reads it. Our own: the limits on the head.
 use Rattle.std.specs.Prelude.{◌≡◌, ◌⊎◌, ℕ, ◌≤◌, ◌<◌, Bool, true, List, [], ◌++◌, length, IsTrue, IsFalse}
-use Rattle.std.specs.Io.KnownBytes.{prepend_known}
+use Rattle.std.specs.Io.KnownBytes.{prepend_known, IsAtEnd}
 use Rattle.httparse.specs.Grammar.{ResponseHead, ReadsResponse, HasNoResponse, MayBecomeResponse, print_response, status_code}
 use Rattle.http_relay_wire.specs.Wires.{Reading}
 use Rattle.http_relay_wire.specs.Faults.{after_read_fault, after_write_fault}
@@ -44,9 +44,9 @@ IsUnsent text before after = (text ≡ []) × ((fault : WireFault) × (after ≡
 abbrev pub IsBroken : List ℕ → FaultCounts → FaultCounts → Type 0
 IsBroken text before after = IsUnfinished 16384 text × ((fault : WireFault) × (after ≡ after_read_fault fault before))
 
--- the peer has ended, and what came is less than a head
+-- the text is less than a head, and it is all that came: behind it no byte is left, and a read has told so
 abbrev pub IsCutShort : List ℕ → Reading → Type 0
-IsCutShort text reading = IsUnfinished 16384 text × (reading.ended ≡ true)
+IsCutShort text reading = IsUnfinished 16384 text × IsAtEnd reading.unread × (reading.ended ≡ true)
 
 -- why a probe that read this text says no, and which failures it counted: one, or none
 abbrev pub HasReason : List ℕ → Reading → FaultCounts → FaultCounts → Type 0

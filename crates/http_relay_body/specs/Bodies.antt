@@ -1,11 +1,25 @@
 -- The bodies of requests: RFC 9112, section 6.3 (none, so many bytes) and section 7.1 (chunks).
-use Rattle.std.specs.Prelude.{◌≡◌, ℕ, List, [], length}
+use Rattle.std.specs.Prelude.{◌≡◌, ℕ, List, [], ◌++◌, length, Result, Ok, Err}
 use Rattle.http_relay_body_chunks.specs.Chunks.{IsChunked}
 use Rattle.http_relay_forward.specs.declared.framing.BodyKind.{BodyKind}
 use Rattle.http_relay_forward.specs.declared.framing.BodyKind.TheVariants.{Empty, Length, Chunked}
+use Rattle.http_relay_body_length.specs.declared.fault.BodyFault.{BodyFault}
+use Rattle.http_relay_body_length.specs.declared.fault.BodyFault.TheVariants.{Truncated, Client, Server, BadChunk}
 
 -- the text is a body of this kind
 abbrev pub IsBody : BodyKind → List ℕ → Type 0
 IsBody Empty text = text ≡ []
 IsBody (Length count) text = length text ≡ count
 IsBody Chunked text = IsChunked text
+
+-- a body of this kind stands at the front of the input
+abbrev pub BeginsWithBody : BodyKind → List ℕ → Type 0
+BeginsWithBody kind input = (body : List ℕ) × (rest : List ℕ) × IsBody kind body × (input ≡ body ++ rest)
+
+-- what an answer says of the whole input, be it read or not: a body stands at its front, or at 92 and 94 none does
+abbrev pub JudgesInput : BodyKind → List ℕ → Result (Unit {0}) BodyFault → Type 0
+JudgesInput kind input (Ok value) = BeginsWithBody kind input
+JudgesInput kind input (Err Truncated) = ¬ BeginsWithBody kind input
+JudgesInput kind input (Err BadChunk) = ¬ BeginsWithBody kind input
+JudgesInput kind input (Err (Client fault)) = Unit {0}
+JudgesInput kind input (Err (Server fault)) = Unit {0}

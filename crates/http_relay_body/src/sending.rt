@@ -1,6 +1,6 @@
-ghost use Rattle.std.specs.Prelude.{◌≡◌, ℕ, List, length};
+ghost use Rattle.std.specs.Prelude.{◌≡◌, ℕ, List, ◌++◌, length, IfSome};
 ghost use Rattle.http_relay_body_length.specs.Moves.{Moved, client_faults, server_faults};
-ghost use Rattle.http_relay_body.specs.Bodies.{IsBody};
+ghost use Rattle.http_relay_body.specs.Bodies.{IsBody, JudgesInput};
 
 use http_relay_body_chunks::pass_chunks;
 use http_relay_body_length::{AtHand, BodyFault, pass};
@@ -24,6 +24,9 @@ pub fn send_body<C: Wire, S: Wire>(
     ensures server { S.faults server.new ≡ server_faults result (S.faults server.old) }
     ensures client_written { C.written client.new ≡ C.written client.old }
     ensures server_reading { S.reading server.new ≡ S.reading server.old }
+
+    // What the answer says of all that the client sends behind the head, where it is known.
+    ensures input { IfSome (C.reading client.old).unread (λ input. JudgesInput kind (behind.now ++ input) result) }
 {
     let mut at_hand = AtHand::new(behind);
     send_through(kind, &mut at_hand, client, server, &mut [0; ROOM])

@@ -22,7 +22,5 @@ pub(crate) fn take_behind<C: Wire>(
     // Its faults are the client's.
     ensures server { (counts : FaultCounts) → server_faults result counts ≡ counts }
 {
-    let byte = at_hand.take_byte(client)?;
-    room[filled] = byte;
-    Ok(byte)
+    at_hand.take_byte(client, &mut room[filled..filled + 1])
 }

@@ -38,11 +38,11 @@ fn pass_line_end<C: Wire, S: Wire>(
     ensures client_written { C.written client.new ≡ C.written client.old }
     ensures server_reading { S.reading server.new ≡ S.reading server.old }
 {
-    let first = at_hand.take_byte(client)?;
+    let first = at_hand.take_byte(client, &mut [0])?;
     if first != b'\r' {
         return Err(BodyFault::BadChunk);
     }
-    let second = at_hand.take_byte(client)?;
+    let second = at_hand.take_byte(client, &mut [0])?;
     if second != b'\n' {
         return Err(BodyFault::BadChunk);
     }

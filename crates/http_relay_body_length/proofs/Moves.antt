@@ -55,12 +55,12 @@ pub appends_both : (before mid after : Option (List ℕ)) (s t : List ℕ) → m
 appends_both before mid after s t x y = y ∙ ap (λ known. append_known known t) x ∙ append_twice before s t
 
 -- a fault in a later part speaks of the whole
-answers_later : {A B : Type 0} (P : A → List ℕ → Type 0) (Q : B → List ℕ → Type 0) (s t : List ℕ) (reading : Reading) (fault : BodyFault)
-    → ((rest : List ℕ) → Begins P (s ++ rest) → Begins Q rest) → Answers Q t reading (Err fault) → Answers P (s ++ t) reading (Err fault)
-answers_later P Q s t reading Truncated skip x = (x.0, λ begins. x.1 (skip t begins))
-answers_later P Q s t reading BadChunk skip x = λ more begins. x more (skip (t ++ more) (subst (Begins P) (append_assoc s t more) begins))
-answers_later P Q s t reading (Client fault) skip x = λ begins. x (skip t begins)
-answers_later P Q s t reading (Server fault) skip x = tt
+answers_later : {A B : Type 0} (P : A → List ℕ → Type 0) (Q : B → List ℕ → Type 0) (s t left : List ℕ) (reading : Reading) (fault : BodyFault)
+    → ((rest : List ℕ) → Begins P (s ++ rest) → Begins Q rest) → Answers Q t left reading (Err fault) → Answers P (s ++ t) left reading (Err fault)
+answers_later P Q s t left reading Truncated skip x = (x.0, λ begins. x.1 (skip t begins))
+answers_later P Q s t left reading BadChunk skip x = λ more begins. x more (skip (t ++ more) (subst (Begins P) (append_assoc s t more) begins))
+answers_later P Q s t left reading (Client fault) skip x = (x.0, λ begins. x.1 (skip t begins))
+answers_later P Q s t left reading (Server fault) skip x = tt
 
 pub fault_later : {A B : Type 0} (P : A → List ℕ → Type 0) (Q : B → List ℕ → Type 0) (hand mid left : List ℕ) (old between new : Reading)
     (before mid_written after : Option (List ℕ)) (fault : BodyFault) (s : List ℕ)
@@ -70,7 +70,7 @@ pub fault_later : {A B : Type 0} (P : A → List ℕ → Type 0) (Q : B → List
 fault_later P Q hand mid left old between new before mid_written after fault s taken sent skip later = record {
   text = s ++ later.text;
   taken = take_twice hand mid left old.unread between.unread new.unread s later.text taken later.taken;
-  answers = answers_later P Q s later.text new fault skip later.answers;
+  answers = answers_later P Q s later.text left new fault skip later.answers;
   sent = tt;
   beginning = begins_later before mid_written after s later.text sent later.beginning;
 }
@@ -125,9 +125,9 @@ nothing_some most (count, front, rest, (size, some, within), parted) =
 
 -- the client failed before the first of some bytes
 pub none_came : (most : ℕ) (hand left : List ℕ) (old new : Reading) (written : Option (List ℕ)) (fault : WireFault)
-    → Taken hand left old.unread new.unread [] → Moved (IsSome most) hand left old new written written (Err (Client fault))
-none_came most hand left old new written fault taken =
-    record { text = []; taken = taken; answers = nothing_some most; sent = tt; beginning = begins_with_nothing written [] }
+    → Taken hand left old.unread new.unread [] → left ≡ [] → Moved (IsSome most) hand left old new written written (Err (Client fault))
+none_came most hand left old new written fault taken none =
+    record { text = []; taken = taken; answers = (none, nothing_some most); sent = tt; beginning = begins_with_nothing written [] }
 
 -- a later part was sent, and makes the whole
 pub part_later : {A B : Type 0} (P : A → List ℕ → Type 0) (Q : B → List ℕ → Type 0) (hand mid left : List ℕ) (old between new : Reading)
@@ -151,7 +151,7 @@ pub byte_missing : {A : Type 0} (P : A → List ℕ → Type 0) (hand mid left :
 byte_missing P hand mid left old between new written fault s taken none found = record {
   text = s ++ found.text;
   taken = take_twice hand mid left old.unread between.unread new.unread s found.text taken found.taken;
-  answers = answers_later P IsByte s found.text new fault (skip_by_byte P s none) found.answers;
+  answers = answers_later P IsByte s found.text left new fault (skip_by_byte P s none) found.answers;
   sent = tt;
   beginning = begins_with_nothing written (s ++ found.text);
 }

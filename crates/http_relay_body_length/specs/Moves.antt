@@ -1,6 +1,6 @@
 -- What moving bytes from the client to the server does, and what a fault says. Our own words.
 use Rattle.std.specs.Prelude.{◌≡◌, ◌<◌, ◌≤◌, ◌⊎◌, ℕ, true, List, [], ◌∷◌, ◌++◌, length, Option, Result, Ok, Err, OnOk, OnErr}
-use Rattle.std.specs.Io.KnownBytes.{prepend_known, append_known}
+use Rattle.std.specs.Io.KnownBytes.{prepend_known, append_known, IsAtEnd}
 use Rattle.http_relay_wire.specs.Wires.{Reading, AppendsBeginning}
 use Rattle.http_relay_wire.specs.Faults.{after_read_fault, after_write_fault}
 use Rattle.http_relay_wire.specs.declared.fault.FaultCounts.{FaultCounts}
@@ -23,27 +23,31 @@ Begins {A} IsPart text = (value : A) × (front : List ℕ) × (rest : List ℕ) 
 abbrev pub NeverBegins : {A : Type 0} → (A → List ℕ → Type 0) → List ℕ → Type 0
 NeverBegins IsPart text = (more : List ℕ) → ¬ Begins IsPart (text ++ more)
 
--- What an answer says of the text that was taken, and of the wire behind it. The client is at fault only where no part stood there
--- yet: behind a part nothing is waited for.
-abbrev pub Answers : {A : Type 0} → (A → List ℕ → Type 0) → List ℕ → Reading → Result A BodyFault → Type 0
-Answers IsPart text reading (Ok value) = IsPart value text
-Answers IsPart text reading (Err Truncated) = (reading.ended ≡ true) × ¬ Begins IsPart text
-Answers IsPart text reading (Err BadChunk) = NeverBegins IsPart text
-Answers IsPart text reading (Err (Client fault)) = ¬ Begins IsPart text
-Answers IsPart text reading (Err (Server fault)) = Unit {0}
+-- the client has ended: no byte is left at hand or to be read, and a read has told so
+abbrev pub HasEnded : List ℕ → Reading → Type 0
+HasEnded left reading = (left ≡ []) × IsAtEnd reading.unread × (reading.ended ≡ true)
+
+-- What an answer says of the text that was taken, of what is left at hand, and of the wire behind it. The client is at fault only
+-- where all that was at hand was taken and no part stood there yet: behind a part nothing is waited for.
+abbrev pub Answers : {A : Type 0} → (A → List ℕ → Type 0) → List ℕ → List ℕ → Reading → Result A BodyFault → Type 0
+Answers IsPart text left reading (Ok value) = IsPart value text
+Answers IsPart text left reading (Err Truncated) = HasEnded left reading × ¬ Begins IsPart text
+Answers IsPart text left reading (Err BadChunk) = NeverBegins IsPart text
+Answers IsPart text left reading (Err (Client fault)) = (left ≡ []) × ¬ Begins IsPart text
+Answers IsPart text left reading (Err (Server fault)) = Unit {0}
 
 -- a part was taken, or the answer says why not
 pub record Found {A : Type 0} (IsPart : A → List ℕ → Type 0) (hand left : List ℕ) (old new : Reading) (answer : Result A BodyFault) : Type 0 where
   pub text : List ℕ
   pub taken : Taken hand left old.unread new.unread text
-  pub answers : Answers IsPart text new answer
+  pub answers : Answers IsPart text left new answer
 
 -- a part was taken and written, or a beginning of what was taken
 pub record Moved {A : Type 0} (IsPart : A → List ℕ → Type 0) (hand left : List ℕ) (old new : Reading)
     (before after : Option (List ℕ)) (answer : Result A BodyFault) : Type 0 where
   pub text : List ℕ
   pub taken : Taken hand left old.unread new.unread text
-  pub answers : Answers IsPart text new answer
+  pub answers : Answers IsPart text left new answer
   pub sent : OnOk answer (after ≡ append_known before text)
   pub beginning : OnErr answer (AppendsBeginning before after text)
 

@@ -20,7 +20,8 @@ fn bytes_at_hand_go_first_and_none_behind_is_taken(rt: HostRuntime) {
             let answer = pass(&mut at_hand, &mut client, &mut server, &mut [0; 3], 7);
             assert_eq!(rt; answer, Ok(()), "at {at}");
             assert_eq!(rt; server.written(), INPUT, "at {at}");
-            assert_eq!(rt; at_hand.take_byte(&mut client), Ok(b'G'), "at {at}");
+            let byte = at_hand.take_byte(&mut client, &mut [0]);
+            assert_eq!(rt; byte, Ok(b'G'), "at {at}");
         }
     }
 }
@@ -49,7 +50,7 @@ fn a_client_that_ends_too_early_is_truncated(rt: HostRuntime) {
         let answer = pass(&mut at_hand, &mut client, &mut server, &mut [0; 3], 7);
         assert_eq!(rt; answer, Err(BodyFault::Truncated), "at {at}");
         assert_eq!(rt; server.written(), &INPUT[..at], "at {at}");
-        let byte = at_hand.take_byte(&mut client);
+        let byte = at_hand.take_byte(&mut client, &mut [0]);
         assert_eq!(rt; byte, Err(BodyFault::Truncated), "at {at}");
     }
 }

@@ -44,3 +44,9 @@ client_faults (Ok count) counts = counts
 client_faults (Err (NoResponse fault)) counts = counts
 client_faults (Err (CutShort fault)) counts = counts
 client_faults (Err (Client fault)) counts = after_write_fault fault counts
+
+-- the number of the fault
+abbrev pub fault_number : CopyFault → ℕ
+fault_number (NoResponse fault) = 93
+fault_number (CutShort fault) = 93
+fault_number (Client fault) = 93

@@ -81,3 +81,12 @@ fn a_fault_in_a_response_is_told(rt: HostRuntime) {
         }
     }
 }
+
+#[test]
+fn the_numbers_of_the_faults(rt: HostRuntime) {
+    for fault in [WireFault::Timeout, WireFault::Broken] {
+        assert_eq!(rt; CopyFault::NoResponse(fault).number(), 93);
+        assert_eq!(rt; CopyFault::CutShort(fault).number(), 93);
+        assert_eq!(rt; CopyFault::Client(fault).number(), 93);
+    }
+}

@@ -1,5 +1,5 @@
 -- Why bytes never begin with a good head, and what the spans of a head cover.
-use Rattle.std.proofs.Common.{◌≡◌, ℕ, ◌≤◌, List, length, take, drop, map, arith, ap, sym, ◌∙◌, subst, Result, Ok, Err, inl, inr}
+use Rattle.std.proofs.Common.{◌≡◌, ℕ, ◌≤◌, List, [], ◌++◌, append_assoc, append-nil, length, take, drop, map, arith, refl, ap, sym, ◌∙◌, subst, Option, None, Some, IfSome, Result, Ok, Err, inl, inr}
 use Rattle.std.specs.declared.net.ipv4_addr.Ipv4Addr.{Ipv4Addr}
 use Rattle.httparse.specs.Grammar.{RequestHead, ReadsRequest, HasNoRequest, NeverHasRequest, print_request}
 use Rattle.httparse.specs.Spans.{IsRequestAt, IsRequestOf, IsRequestWithin, span_bytes, header_bytes, name_and_value}
@@ -10,7 +10,7 @@ use Rattle.std.proofs.lemmas.Simd.{map-map}
 use Rattle.std.proofs.lemmas.List.{length-map, length-take-le}
 use Rattle.lb_acl.specs.FieldView.{FieldView}
 use Rattle.lb_acl.specs.HeadView.{HeadView}
-use Rattle.std.specs.Io.KnownBytes.{prepend_known}
+use Rattle.std.specs.Io.KnownBytes.{prepend_known, IsAtEnd}
 use Rattle.http_relay_wire.proofs.Rooms.{front_within}
 use Rattle.http_relay_wire.specs.Wires.{Reading}
 use Rattle.http_relay_forward.specs.Framing.{framing}
@@ -22,7 +22,7 @@ use Rattle.http_relay_head.specs.ReadHeadView.{ReadHeadView}
 use Rattle.http_relay_head.specs.declared.filling.Found.{Found}
 use Rattle.http_relay_head.specs.declared.fault.HeadFault.{HeadFault}
 use Rattle.http_relay_head.specs.declared.fault.HeadFault.TheVariants.{HeadTooLarge, BadHead, Truncated, Wire, BothLengths, Memory}
-use Rattle.http_relay_head.specs.Heads.{IsHead, HasGoodHead, NeverHasGoodHead, Answers, HeadRead, version_of, head_of, field_of}
+use Rattle.http_relay_head.specs.Heads.{IsHead, HasGoodHead, NeverHasGoodHead, Answers, HeadRead, JudgesInput, version_of, head_of, field_of}
 use Rattle.http_relay_head.specs.Scans.{NeverFits, Fills, Filled, Assembles, head_at, field_at}
 
 -- no head stands at the front, and there are as many bytes as one may have
@@ -139,3 +139,38 @@ whole source old new room headers found answer size many filled made =
     let within = subst (λ text. IsRequestWithin text headers found.spans) is_front fills.3 in
     let fits : length front ≤ 16384 = omega (arith, length-take-le found.filled room fills.0, fills.0, size) in
     record { text = front; read = read; answers = assembled source front headers found.spans new answer spans within many fits made }
+
+-- a head at the front of the text stands at the front of what begins with the text
+stays_head : (source : Ipv4Addr) (said : Result BodyKind HeadRefusal) (text more : List ℕ) (head : RequestHead) (rest : List ℕ)
+    → IsHead source said text head rest → IsHead source said (text ++ more) head (rest ++ more)
+stays_head source said text more head rest good = record {
+  reads = (good.reads.0, ap (λ xs. xs ++ more) good.reads.1 ∙ append_assoc (print_request head) rest more);
+  size = good.size;
+  fields = good.fields;
+  framed = good.framed;
+}
+
+-- what was read and what is left are the whole input
+judges_known : (source : Ipv4Addr) (text more : List ℕ) (reading : Reading) (answer : Result ReadHeadView HeadFault)
+    → reading.unread ≡ Some more → Answers source text reading answer → JudgesInput source (text ++ more) answer
+judges_known source text more reading (Ok read) known (head, good, is) =
+    (head, read.rest ++ more, stays_head source (Ok read.kind) text more head read.rest good)
+judges_known source text more reading (Err HeadTooLarge) known says = says.0 more
+judges_known source text more reading (Err BadHead) known says = says.0 more
+judges_known source text more reading (Err BothLengths) known says = says.0 more
+judges_known source text more reading (Err Truncated) known says =
+    let nothing : more ≡ [] = subst IsAtEnd known says.1 in
+    none_yet source (text ++ more) (subst HasNoRequest (sym (ap (λ xs. text ++ xs) nothing ∙ append-nil text)) says.0.0)
+judges_known source text more reading (Err (Wire fault)) known says = tt
+judges_known source text more reading (Err Memory) known says = tt
+
+judges_unread : (source : Ipv4Addr) (text : List ℕ) (known : Option (List ℕ)) (reading : Reading) (answer : Result ReadHeadView HeadFault)
+    → reading.unread ≡ known → Answers source text reading answer → IfSome (prepend_known text known) (λ input. JudgesInput source input answer)
+judges_unread source text None reading answer is says = tt
+judges_unread source text (Some more) reading answer is says = judges_known source text more reading answer is says
+
+-- what is said of the text that was read says this of the whole input
+pub judges_input : (source : Ipv4Addr) (old new : Reading) (answer : Result ReadHeadView HeadFault)
+    → HeadRead source old new answer → IfSome old.unread (λ input. JudgesInput source input answer)
+judges_input source old new answer head =
+    subst (λ known. IfSome known (λ input. JudgesInput source input answer)) (sym head.read) (judges_unread source head.text new.unread new answer refl head.answers)

@@ -1,7 +1,7 @@
 -- When bytes begin with the head of a request, and what a reader of heads answers: RFC 9112, sections 2 to 5, as httparse reads
 -- them. Our own: the limits, and which heads are refused.
 use Rattle.std.specs.Prelude.{◌≡◌, ◌⊎◌, ℕ, ◌≤◌, ◌<◌, ◌==◌, true, List, map, ◌++◌, length, Option, Some, None, Result, Ok, Err, if◌then◌else◌}
-use Rattle.std.specs.Io.KnownBytes.{prepend_known}
+use Rattle.std.specs.Io.KnownBytes.{prepend_known, IsAtEnd}
 use Rattle.std.specs.declared.net.ipv4_addr.Ipv4Addr.{Ipv4Addr}
 use Rattle.httparse.specs.Grammar.{RequestHead, Field, ReadsRequest, HasNoRequest, NeverHasRequest, MayBecomeRequest, print_request, field_value}
 use Rattle.httparse.specs.Spans.{RequestExceeds}
@@ -66,6 +66,10 @@ IsOverLimit text = (16384 ≤ length text) ⊎ RequestExceeds 100 text
 abbrev pub IsUnfinished : List ℕ → Type 0
 IsUnfinished text = HasNoRequest text × MayBecomeRequest text × (length text < 16384)
 
+-- the text is less than a head, and it is all that came: behind it no byte is left, and a read has told so
+abbrev pub IsCutShort : List ℕ → Reading → Type 0
+IsCutShort text reading = IsUnfinished text × IsAtEnd reading.unread × (reading.ended ≡ true)
+
 -- what an answer says of the text that was read, and of the wire behind it
 abbrev pub Answers : Ipv4Addr → List ℕ → Reading → Result ReadHeadView HeadFault → Type 0
 Answers source text reading (Ok read) =
@@ -74,7 +78,7 @@ Answers source text reading (Err HeadTooLarge) = NeverHasGoodHead source text ×
 Answers source text reading (Err BadHead) =
     NeverHasGoodHead source text × (NeverHasRequest text ⊎ BeginsWithHead source (Err Refused.BadHead) text)
 Answers source text reading (Err BothLengths) = NeverHasGoodHead source text × BeginsWithHead source (Err Refused.BothLengths) text
-Answers source text reading (Err Truncated) = IsUnfinished text × (reading.ended ≡ true)
+Answers source text reading (Err Truncated) = IsCutShort text reading
 Answers source text reading (Err (Wire fault)) = IsUnfinished text
 Answers source text reading (Err Memory) = Unit {0}
 
@@ -83,6 +87,16 @@ pub record HeadRead (source : Ipv4Addr) (old new : Reading) (answer : Result Rea
   pub text : List ℕ
   pub read : old.unread ≡ prepend_known text new.unread
   pub answers : Answers source text new answer
+
+-- what an answer says of the whole input, be it read or not: a good head stands at its front, or at 90, 91, 92 and 95 none does
+abbrev pub JudgesInput : Ipv4Addr → List ℕ → Result ReadHeadView HeadFault → Type 0
+JudgesInput source input (Ok read) = BeginsWithHead source (Ok read.kind) input
+JudgesInput source input (Err HeadTooLarge) = ¬ HasGoodHead source input
+JudgesInput source input (Err BadHead) = ¬ HasGoodHead source input
+JudgesInput source input (Err BothLengths) = ¬ HasGoodHead source input
+JudgesInput source input (Err Truncated) = ¬ HasGoodHead source input
+JudgesInput source input (Err (Wire fault)) = Unit {0}
+JudgesInput source input (Err Memory) = Unit {0}
 
 -- a refused head's fault
 abbrev pub told_refusal : HeadRefusal → HeadFault

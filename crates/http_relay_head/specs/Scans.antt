@@ -1,5 +1,5 @@
 -- What the steps of a reader of heads tell one another. No public clause cites this module.
-use Rattle.std.specs.Prelude.{◌≡◌, ℕ, ◌≤◌, true, List, map, ◌++◌, take, drop, length, Result, Ok, Err}
+use Rattle.std.specs.Prelude.{◌≡◌, ℕ, ◌≤◌, List, map, ◌++◌, take, drop, length, Result, Ok, Err}
 use Rattle.std.specs.Io.KnownBytes.{prepend_known}
 use Rattle.std.specs.declared.net.ipv4_addr.Ipv4Addr.{Ipv4Addr}
 use Rattle.httparse.specs.Grammar.{RequestHead, ReadsRequest, NeverHasRequest, print_request}
@@ -12,7 +12,7 @@ use Rattle.http_relay_wire.specs.Wires.{Reading}
 use Rattle.http_relay_forward.specs.Framing.{framing}
 use Rattle.http_relay_forward.specs.declared.framing.HeadRefusal.TheVariants as Refused
 use Rattle.http_relay_head.specs.ReadHeadView.{ReadHeadView}
-use Rattle.http_relay_head.specs.Heads.{version_of, IsOverLimit, IsUnfinished}
+use Rattle.http_relay_head.specs.Heads.{version_of, IsOverLimit, IsUnfinished, IsCutShort}
 use Rattle.http_relay_head.specs.declared.fault.HeadFault.{HeadFault}
 use Rattle.http_relay_head.specs.declared.fault.HeadFault.TheVariants.{HeadTooLarge, BadHead, Truncated, Wire, BothLengths, Memory}
 use Rattle.http_relay_head.specs.declared.scanning.Scanned.{Scanned}
@@ -37,7 +37,7 @@ Fills text reading room headers (Ok found) =
     (found.filled ≤ length room) × (text ≡ take found.filled room) × IsRequestOf text headers found.spans × IsRequestWithin text headers found.spans
 Fills text reading room headers (Err HeadTooLarge) = NeverFits text × IsOverLimit text
 Fills text reading room headers (Err BadHead) = NeverHasRequest text
-Fills text reading room headers (Err Truncated) = IsUnfinished text × (reading.ended ≡ true)
+Fills text reading room headers (Err Truncated) = IsCutShort text reading
 Fills text reading room headers (Err (Wire fault)) = IsUnfinished text
 Fills text reading room headers (Err BothLengths) = ⊥
 Fills text reading room headers (Err Memory) = ⊥

@@ -1,5 +1,5 @@
-ghost use Rattle.std.specs.Prelude.{◌≡◌, length};
-ghost use Rattle.http_relay_head.specs.Heads.{HeadRead, after_head};
+ghost use Rattle.std.specs.Prelude.{◌≡◌, length, IfSome};
+ghost use Rattle.http_relay_head.specs.Heads.{HeadRead, JudgesInput, after_head};
 
 use crate::assembling::assemble;
 use crate::fault::HeadFault;
@@ -22,6 +22,9 @@ pub fn read_head<'a, W: Wire>(
     ensures head { HeadRead source (W.reading wire.old) (W.reading wire.new) result }
     ensures faults { W.faults wire.new ≡ after_head result (W.faults wire.old) }
     ensures written { W.written wire.new ≡ W.written wire.old }
+
+    // What the answer says of all that the client sends, where it is known.
+    ensures input { IfSome (W.reading wire.old).unread (λ input. JudgesInput source input result) }
 {
     let mut headers = [EMPTY_HEADER_SPAN; MOST_FIELDS];
     read_into(alloc, wire, room, &mut headers, source)

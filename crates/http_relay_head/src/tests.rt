@@ -26,6 +26,8 @@ const BOTH: Verdict = Err(HeadFault::BothLengths);
 
 const CUT: Verdict = Err(HeadFault::Truncated);
 
+const LARGE: Verdict = Err(HeadFault::HeadTooLarge);
+
 const NONE: Verdict = Ok(BodyKind::Empty);
 
 const CHUNKS: Verdict = Ok(BodyKind::Chunked);
@@ -271,8 +273,7 @@ fn head_of(alloc: Global, size: usize) -> Result<Vec<u8>, AllocError> {
 
 #[test]
 fn heads_at_the_limits(rt: HostRuntime) -> Result<(), Fail> {
-    let large = Err(HeadFault::HeadTooLarge);
-    for (size, expected) in [(16384, NONE), (16385, large), (40000, large)] {
+    for (size, expected) in [(16384, NONE), (16385, LARGE), (40000, LARGE)] {
         let bytes = head_of(rt.alloc(), size)?;
         assert_eq!(rt; bytes.len(), size);
         assert_eq!(rt;
@@ -281,7 +282,7 @@ fn heads_at_the_limits(rt: HostRuntime) -> Result<(), Fail> {
             "{size} bytes"
         );
     }
-    for (count, expected) in [(100, NONE), (101, large)] {
+    for (count, expected) in [(100, NONE), (101, LARGE)] {
         let mut lines = Vec::new(rt.alloc());
         for _ in 0..count {
             lines.extend_from_slice(b"X: 1\r\n")?;
@@ -294,6 +295,71 @@ fn heads_at_the_limits(rt: HostRuntime) -> Result<(), Fail> {
         );
     }
     Ok(())
+}
+
+const POST: &[u8] = b"POST /p HTTP/1.1\r\n";
+
+// A front, so many fields, lines, and the verdict. Of the parser, fields beyond the limit are 90 and any other error 91, whichever
+// it meets first; what the rules refuse is judged in a head that was parsed.
+const TWO_FAULTS: [(&[u8], usize, &[u8], Verdict); 13] = [
+    (POST, 101, b"Bad Name: 1\r\n", LARGE),
+    (POST, 101, b"Host\r\n", LARGE),
+    (POST, 101, b"X: a\0b\r\n", LARGE),
+    (POST, 100, b"Bad Name: 1\r\n", BAD),
+    (b"POST /p HTTP/1.1\r\nBad Name: 1\r\n", 101, b"", BAD),
+    (b"POST /p HTTP/1.1\r\nHost\r\n", 101, b"", BAD),
+    (b"POST /p HTTP/1.2\r\n", 101, b"", BAD),
+    (b"CONNECT x:443 HTTP/1.1\r\n", 101, b"", LARGE),
+    (b"CONNECT x:443 HTTP/1.1\r\n", 100, b"", BAD),
+    (
+        POST,
+        99,
+        b"Content-Length: 3\r\nContent-Length: 4\r\n",
+        LARGE,
+    ),
+    (
+        POST,
+        98,
+        b"Content-Length: 3\r\nContent-Length: 4\r\n",
+        BOTH,
+    ),
+    (POST, 100, b"Transfer-Encoding: gzip\r\n", LARGE),
+    (POST, 99, b"Transfer-Encoding: gzip\r\n", BAD),
+];
+
+#[test]
+fn of_two_faults_the_parsers_first_is_told(rt: HostRuntime) -> Result<(), Fail> {
+    for (front, count, lines, expected) in TWO_FAULTS {
+        let bytes = with_fields(rt.alloc(), front, count, lines)?;
+        for pieces in [[].as_slice(), &[1], &[40, 7]] {
+            let script = Script {
+                pieces,
+                ..Script::SMOOTH
+            };
+            assert_eq!(rt;
+                verdict(rt.alloc(), &bytes, script),
+                expected,
+                "{front:?}, {count} fields, {lines:?}"
+            );
+        }
+    }
+    Ok(())
+}
+
+// This front, so many fields, these lines, and the empty line.
+fn with_fields(
+    alloc: Global,
+    front: &[u8],
+    count: usize,
+    lines: &[u8],
+) -> Result<Vec<u8>, AllocError> {
+    let mut bytes = Vec::from_slice(alloc, front)?;
+    for _ in 0..count {
+        bytes.extend_from_slice(b"X: 1\r\n")?;
+    }
+    bytes.extend_from_slice(lines)?;
+    bytes.extend_from_slice(b"\r\n")?;
+    Ok(bytes)
 }
 
 #[test]
