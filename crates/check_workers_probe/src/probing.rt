@@ -1,11 +1,12 @@
-ghost use Rattle.std.specs.Prelude.{◌≡◌, IfSome, IfNone, IsTrue, IsFalse, true, length};
+ghost use Rattle.std.specs.Prelude.{◌≡◌, ◌++◌, IfSome, IfNone, IsTrue, IsFalse, OnOk, OnErr, true, length};
 ghost use Rattle.std.specs.Io.KnownBytes.{append_known};
+ghost use Rattle.http_relay_wire.specs.Faults.{after_write};
 ghost use Rattle.http_relay_wire.specs.Wires.{AppendsBeginning};
 ghost use Rattle.check_workers_probe.specs.Probes.{Probed};
 
 use crate::judge::{MOST_BYTES, Verdict, judge};
 use check_rule::CheckRule;
-use http_relay_wire::{Wire, write_all};
+use http_relay_wire::{Wire, WireFault, write_all};
 
 /// Whether the server behind a wire that was just connected is well. It takes no memory: the response's head is read into
 /// 16384 bytes of the stack, and each read costs one walk over what has come.
@@ -20,21 +21,32 @@ pub fn probe<W: Wire>(rule: &CheckRule, wire: &mut W) -> bool
     ensures response { IfSome rule.now (λ _. Probed (W.reading wire.old) (W.reading wire.new) (W.faults wire.old) (W.faults wire.new) result) }
 {
     match rule.request() {
-        Some(request) => probe_by(request, wire),
+        Some(request) => probe_by(request.line, request.fields, wire),
         None => true,
     }
 }
 
 /// Sends the request and judges the response.
-fn probe_by<W: Wire>(request: &[u8], wire: &mut W) -> bool
-    ensures sent { IsTrue result → W.written wire.new ≡ append_known (W.written wire.old) request.now }
-    ensures beginning { AppendsBeginning (W.written wire.old) (W.written wire.new) request.now }
+fn probe_by<W: Wire>(line: &[u8], fields: &[u8], wire: &mut W) -> bool
+    ensures sent { IsTrue result → W.written wire.new ≡ append_known (W.written wire.old) (line.now ++ fields.now) }
+    ensures beginning { AppendsBeginning (W.written wire.old) (W.written wire.new) (line.now ++ fields.now) }
     ensures response { Probed (W.reading wire.old) (W.reading wire.new) (W.faults wire.old) (W.faults wire.new) result }
 {
-    match write_all(wire, request) {
+    match send(line, fields, wire) {
         Ok(()) => is_success(wire, &mut [0; MOST_BYTES]),
         Err(_) => false,
     }
+}
+
+/// Writes the line and behind it the fields; at a fault a beginning of both together went out.
+fn send<W: Wire>(line: &[u8], fields: &[u8], wire: &mut W) -> Result<(), WireFault>
+    ensures ok { OnOk result (W.written wire.new ≡ append_known (W.written wire.old) (line.now ++ fields.now)) }
+    ensures err { OnErr result (AppendsBeginning (W.written wire.old) (W.written wire.new) (line.now ++ fields.now)) }
+    ensures faults { W.faults wire.new ≡ after_write result (W.faults wire.old) }
+    ensures reading { W.reading wire.new ≡ W.reading wire.old }
+{
+    write_all(wire, line)?;
+    write_all(wire, fields)
 }
 
 /// Reads a response into the room until it is judged.

@@ -1,5 +1,5 @@
 use super::*;
-use check_rule::CheckRule;
+use check_rule::{CheckRule, RequestLine};
 use http_relay_wire::{Script, ScriptedWire, WireFault};
 use lb_acl::Version;
 use std::alloc::{AllocError, Global};
@@ -9,8 +9,8 @@ use std::test::Fail;
 const REQUEST: &[u8] = b"GET /h HTTP/1.1\r\nHost: 127.0.0.1:8001\r\n\r\n";
 
 fn rule(alloc: Global) -> Result<CheckRule, AllocError> {
-    let local = Ipv4Addr::new(127, 0, 0, 1);
-    CheckRule::http(alloc, b"GET", b"/h", Version::Http11, local, 8001)
+    let line = RequestLine::new(alloc, b"GET", b"/h", Version::Http11)?;
+    CheckRule::http(alloc, &line, Ipv4Addr::new(127, 0, 0, 1), 8001)
 }
 
 #[test]
@@ -58,7 +58,7 @@ fn a_bare_connect_sends_and_reads_nothing(rt: HostRuntime) {
     assert_eq!(rt; wire.unread().len(), 19);
 }
 
-// The response comes in three reads, the request goes out in two writes.
+// The response comes in three reads, the request goes out in two writes, one of its line and one of its fields.
 #[test]
 fn a_fault_anywhere_before_the_answer_is_a_no(rt: HostRuntime) -> Result<(), Fail> {
     let rule = rule(rt.alloc())?;

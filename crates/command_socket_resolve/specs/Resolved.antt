@@ -5,7 +5,7 @@ use Rattle.command_socket_words.specs.declared.command.Command.TheVariants as Sa
 use Rattle.command_socket_words.specs.declared.fault.CommandFault.{CommandFault}
 use Rattle.command_socket_words.specs.declared.fault.CommandFault.TheVariants as Told
 use Rattle.lb_config.specs.ConfigViews.{ConfigView}
-use Rattle.lb_config.specs.Finds.{find_backend, find_server_from}
+use Rattle.lb_config.specs.Finds.{find_backend, find_server}
 use Rattle.lb_config.specs.declared.find.FindFault.{FindFault}
 use Rattle.lb_config.specs.declared.find.FindFault.TheVariants.{NoBackend, NoSuchServer}
 use Rattle.server_state.specs.declared.change.Change.{Change}
@@ -29,13 +29,13 @@ found_as command (Err fault) = Err (command_fault fault)
 -- what a command that changes a server changes
 unfoldable pub change_in : ConfigView → Command → Option (Result Change CommandFault)
 change_in config (Says.Set name setting) =
-    Some (found_as (λ found. record { server = found.1; setting = setting }) (find_server_from 0 config.backends name.backend name.server))
+    Some (found_as (λ found. record { server = found.1; setting = setting }) (find_server config.backends name.backend name.server))
 change_in config command = None
 
 -- the command with its backend and its server
 unfoldable pub resolved : ConfigView → Command → Result Resolved CommandFault
 resolved config (Says.Set name setting) =
-    found_as (λ found. Is.Change found.0 (record { server = found.1; setting = setting })) (find_server_from 0 config.backends name.backend name.server)
+    found_as (λ found. Is.Change found.0 (record { server = found.1; setting = setting })) (find_server config.backends name.backend name.server)
 resolved config (Says.Plan name) = found_as (λ backend. Is.Plan backend) (find_backend config.backends name)
 resolved config (Says.Show what name) = found_as (λ backend. Is.Show what backend) (find_backend config.backends name)
 resolved config Says.Stop = Ok Is.Stop

@@ -1,4 +1,4 @@
-use check_rule::CheckRule;
+use check_rule::{CheckRule, RequestLine};
 use check_workers_probe::probe;
 use http_relay_wire::{Script, ScriptedWire};
 use lb_acl::Version;
@@ -8,7 +8,8 @@ use std::test::Fail;
 #[test]
 fn a_check_sends_its_request_and_judges_the_response(rt: HostRuntime) -> Result<(), Fail> {
     let local = Ipv4Addr::new(127, 0, 0, 1);
-    let rule = CheckRule::http(rt.alloc(), b"GET", b"/h", Version::Http11, local, 8001)?;
+    let line = RequestLine::new(rt.alloc(), b"GET", b"/h", Version::Http11)?;
+    let rule = CheckRule::http(rt.alloc(), &line, local, 8001)?;
     let responses = [
         (b"HTTP/1.0 204 No Content\r\n\r\n".as_slice(), true),
         (b"HTTP/1.0 400 No Content\r\n\r\n", false),

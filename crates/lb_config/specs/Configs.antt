@@ -4,7 +4,7 @@
 use Rattle.std.specs.Prelude.{ℕ, List, [], ◌∷◌, ◌++◌, map, Option, Some, None, Result, Ok, unwrap_or, if◌then◌else◌}
 use Rattle.std.specs.List.{filter_map}
 use Rattle.std.specs.Option.{option_map, option_or, option_to_list}
-use Rattle.lb_config_lines.specs.declared.http_check.HttpCheck.{HttpCheck}
+use Rattle.check_rule.specs.CheckRequests.{CheckLine}
 use Rattle.lb_config_lines.specs.declared.setting.Balance.TheVariants.{RoundRobin}
 use Rattle.lb_config_lines.specs.declared.setting.Setting.{Setting}
 use Rattle.lb_config_lines.specs.declared.statement.Section.{Section}
@@ -23,7 +23,7 @@ use Rattle.lb_config_values.specs.DefaultsLines.{defaults_of, no_defaults}
 use Rattle.lb_config_values.specs.GlobalsView.{GlobalsView}
 use Rattle.lb_config_values.specs.ServerView.{ServerView}
 use Rattle.lb_config_values.specs.Servers.{servers_behind}
-use Rattle.lb_config_values.specs.Values.{globals_behind, http_check_in, last_said, no_globals, values_behind}
+use Rattle.lb_config_values.specs.Values.{check_line_in, globals_behind, last_said, no_globals, values_behind}
 use Rattle.lb_config_values.specs.declared.defaults.Defaults.{Defaults}
 use Rattle.lb_config_values.specs.declared.proxy_values.ProxyValues.{ProxyValues}
 use Rattle.lb_config.specs.BasisView.{BasisView}
@@ -43,8 +43,9 @@ globals_in globals (section ∷ more) = globals_in (with_global_section globals 
 abbrev pub values_of : Defaults → List NumberedSetting → ProxyValues
 values_of defaults settings = values_behind defaults.values settings
 
-abbrev pub http_check_of : Defaults → List NumberedSetting → Option HttpCheck
-http_check_of defaults settings = last_said defaults.check http_check_in settings
+-- the request line of its checks, by the last `option httpchk`
+abbrev pub check_line_of : Defaults → List NumberedSetting → Option CheckLine
+check_line_of defaults settings = last_said defaults.check check_line_in settings
 
 -- the size of the table that the setting is
 abbrev pub size_in : Setting → Option ℕ
@@ -57,7 +58,7 @@ max_pins_of settings = unwrap_or (last_said None size_in settings) 0
 -- the servers of a section
 abbrev pub servers_of : Defaults → List NumberedSetting → List ServerView
 servers_of defaults settings =
-    kept_behind [] (servers_behind (max_pins_of settings) (http_check_of defaults settings) defaults.servers settings)
+    kept_behind [] (servers_behind (max_pins_of settings) (check_line_of defaults settings) defaults.servers settings)
 
 -- a section with servers
 abbrev pub backend_of : BasisView → Defaults → List ℕ → List NumberedSetting → BackendView

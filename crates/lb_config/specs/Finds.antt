@@ -1,6 +1,7 @@
 -- Backends and servers by their names: HAProxy Management Guide 2.8, section 9.3 (`set server <backend>/<server>`). The numbers are
 -- this project's own.
-use Rattle.std.specs.Prelude.{ℕ, ◌+◌, List, [], ◌∷◌, position, Option, Some, None, Result, Ok, Err, if◌then◌else◌}
+use Rattle.std.specs.Prelude.{ℕ, List, position, slice_get, Option, Some, None, Result, Ok, Err}
+use Rattle.std.specs.Option.{option_and_then}
 use Rattle.std.specs.Str.{bytes_eq}
 use Rattle.lb_config_rules.specs.Rules.{within_limit}
 use Rattle.lb_config_values.specs.ServerView.{ServerView}
@@ -24,14 +25,20 @@ find_backend backends name = found_backend (position (λ backend. bytes_eq backe
 abbrev pub server_place : List ServerView → List ℕ → Option ℕ
 server_place servers name = within_limit (position (λ server. bytes_eq server.name name) servers)
 
--- a server of the backend at this place
-abbrev pub at_place : ℕ → Option ℕ → Result (ℕ × ℕ) FindFault
-at_place place (Some server) = Ok (place, server)
-at_place place None = Err NoSuchServer
+-- the server of this name in the backend at a place
+abbrev pub server_at : List BackendView → ℕ → List ℕ → Option ℕ
+server_at backends place name = option_and_then (λ backend. server_place backend.servers name) (slice_get backends place)
 
--- the first backend of the name, the places counted from `place` on, and its server
-abbrev pub find_server_from : ℕ → List BackendView → List ℕ → List ℕ → Result (ℕ × ℕ) FindFault
-find_server_from place [] backend server = Err NoBackend
-find_server_from place (found ∷ more) backend server =
-    if bytes_eq found.name backend then at_place place (server_place found.servers server)
-    else find_server_from (place + 1) more backend server
+-- a place with its server
+abbrev pub with_server : ℕ → Option ℕ → Result (ℕ × ℕ) FindFault
+with_server place (Some server) = Ok (place, server)
+with_server place None = Err NoSuchServer
+
+-- the server of a backend that was looked up
+abbrev pub server_behind : List BackendView → List ℕ → Result ℕ FindFault → Result (ℕ × ℕ) FindFault
+server_behind backends name (Ok place) = with_server place (server_at backends place name)
+server_behind backends name (Err fault) = Err fault
+
+-- the backend of the one name, and in it the server of the other
+abbrev pub find_server : List BackendView → List ℕ → List ℕ → Result (ℕ × ℕ) FindFault
+find_server backends backend server = server_behind backends server (find_backend backends backend)

@@ -1,6 +1,6 @@
 ghost use Rattle.std.specs.Prelude.{◌≡◌, position};
 ghost use Rattle.std.specs.Str.{bytes_eq};
-ghost use Rattle.lb_config.specs.Finds.{find_backend, find_server_from, number_of, server_place};
+ghost use Rattle.lb_config.specs.Finds.{find_backend, find_server, number_of, server_at, server_place};
 
 use crate::{BackendConfig, Config};
 use lb_config_values::ServerConfig;
@@ -34,17 +34,13 @@ impl Config {
     /// The place of the backend of this name, and its server. A backend that is none is told before a server that is none.
     /// Takes no memory.
     pub fn find(&self, backend: &Name, server: &Name) -> Result<(usize, ServerId), FindFault>
-        ensures { result ≡ find_server_from 0 self.now.backends backend.now server.now }
+        ensures { result ≡ find_server self.now.backends backend.now server.now }
     {
-        for (place, found) in self.backends().iter().enumerate() {
-            if found.has_name(backend) {
-                return match server_place(found.servers(), server) {
-                    Some(server) => Ok((place, server)),
-                    None => Err(FindFault::NoSuchServer),
-                };
-            }
+        let place = self.find_backend(backend)?;
+        match server_at(&self.backends, place, server) {
+            Some(server) => Ok((place, server)),
+            None => Err(FindFault::NoSuchServer),
         }
-        Err(FindFault::NoBackend)
     }
 
     /// The place of the backend of this name. Takes no memory.
@@ -62,6 +58,13 @@ fn backend_place(backends: &[BackendConfig], name: &Name) -> Option<usize>
     ensures { result ≡ position (λ backend. bytes_eq backend.name name.now) backends.now }
 {
     backends.iter().position(|backend| backend.has_name(name))
+}
+
+/// The server of the name in the backend at the place.
+fn server_at(backends: &[BackendConfig], place: usize, name: &Name) -> Option<ServerId>
+    ensures { result ≡ server_at backends.now place name.now }
+{
+    server_place(backends.get(place)?.servers(), name)
 }
 
 /// The server of the name. The configuration has at most 128.

@@ -1,3 +1,4 @@
+use check_rule::CheckRequest;
 use lb_acl::{Field, Head, KeyLen, TableType, Version, designated, pin_cost, pin_key};
 use lb_config::{BackendConfig, Config, read_config};
 use lb_config_lines::{Balance, SocketAddress};
@@ -206,8 +207,11 @@ fn servers_of_the_pages(rt: HostRuntime) -> Result<(), Fail> {
     let Some(first) = pages.servers().first() else {
         panic!(&rt; "no servers");
     };
-    let request = b"GET /health HTTP/1.1\r\nHost: 10.20.1.11:8080\r\n\r\n".as_slice();
-    assert!(rt; first.check_rule(rt.alloc())?.request() == Some(request));
+    let request = CheckRequest {
+        line: b"GET /health HTTP/1.1\r\n",
+        fields: b"Host: 10.20.1.11:8080\r\n\r\n",
+    };
+    assert!(rt; first.check_rule().request() == Some(request));
     Ok(())
 }
 
@@ -221,8 +225,11 @@ fn servers_of_the_others(rt: HostRuntime) -> Result<(), Fail> {
     };
     assert_eq!(rt; last.settings().admin, AdminState::Maint);
     assert_eq!(rt; last.settings().max_pins, 102400);
-    let request = b"HEAD /v2/up HTTP/1.0\r\n\r\n".as_slice();
-    assert!(rt; last.check_rule(rt.alloc())?.request() == Some(request));
+    let request = CheckRequest {
+        line: b"HEAD /v2/up HTTP/1.0\r\n",
+        fields: b"\r\n",
+    };
+    assert!(rt; last.check_rule().request() == Some(request));
     let pictures = backend(&rt, &config, PICTURES);
     assert_eq!(rt;
         (api.server_limit(), pictures.server_limit()),
@@ -231,7 +238,7 @@ fn servers_of_the_others(rt: HostRuntime) -> Result<(), Fail> {
     for server in pictures.servers() {
         let settings = server.settings();
         assert_eq!(rt; (settings.max_connections, settings.max_pins), (2000, 0));
-        assert!(rt; server.check_rule(rt.alloc())?.request().is_none());
+        assert!(rt; server.check_rule().request().is_none());
     }
     assert!(rt; backend(&rt, &config, CLOSED).servers().is_empty());
     Ok(())

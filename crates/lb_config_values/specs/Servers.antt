@@ -3,9 +3,8 @@
 -- server's own line goes before them.
 use Rattle.std.specs.Prelude.{ℕ, Bool, ◌||◌, List, [], ◌∷◌, ◌++◌, Option, Some, None, unwrap_or, if◌then◌else◌}
 use Rattle.std.specs.Option.{option_or, option_to_list}
-use Rattle.check_rule.specs.CheckRequests.{check_request}
+use Rattle.check_rule.specs.CheckRequests.{CheckLine, check_request}
 use Rattle.lb_config_arguments.specs.declared.address.Endpoint.{Endpoint}
-use Rattle.lb_config_lines.specs.declared.http_check.HttpCheck.{HttpCheck}
 use Rattle.lb_config_lines.specs.declared.setting.Setting.{Setting}
 use Rattle.lb_config_lines.specs.declared.setting.Setting.TheVariants as Set
 use Rattle.lb_config_sections.specs.declared.config_section.NumberedSetting.{NumberedSetting}
@@ -55,12 +54,12 @@ settings_of max_pins options = record {
 }
 
 -- what a check sends: nothing without `option httpchk`
-abbrev pub check_request_at : Option HttpCheck → Endpoint → Option (List ℕ)
+abbrev pub check_request_at : Option CheckLine → Endpoint → Option (List ℕ)
 check_request_at None endpoint = None
-check_request_at (Some check) endpoint = Some (check_request check.method check.uri check.version endpoint.address endpoint.port)
+check_request_at (Some line) endpoint = Some (check_request line endpoint.address endpoint.port)
 
 -- the server of a line, by all that is said of it
-abbrev pub server_of : ℕ → Option HttpCheck → OptionsView → ServerLine → ServerView
+abbrev pub server_of : ℕ → Option CheckLine → OptionsView → ServerLine → ServerView
 server_of max_pins check options line = record {
   name = line.name;
   endpoint = line.endpoint;
@@ -70,12 +69,12 @@ server_of max_pins check options line = record {
 }
 
 -- the server that the setting is, if it is one
-abbrev pub server_in : ℕ → Option HttpCheck → OptionsView → Setting → Option ServerView
+abbrev pub server_in : ℕ → Option CheckLine → OptionsView → Setting → Option ServerView
 server_in max_pins check defaults (Set.Server line) = Some (server_of max_pins check (options_over defaults line.options) line)
 server_in max_pins check defaults _ = None
 
 -- the servers in their order, each by the defaults before it
-abbrev pub servers_behind : ℕ → Option HttpCheck → OptionsView → List NumberedSetting → List ServerView
+abbrev pub servers_behind : ℕ → Option CheckLine → OptionsView → List NumberedSetting → List ServerView
 servers_behind max_pins check defaults [] = []
 servers_behind max_pins check defaults (numbered ∷ more) =
     option_to_list (server_in max_pins check defaults numbered.setting)

@@ -1,6 +1,7 @@
 -- Single values: HAProxy Configuration Manual 2.8, sections 3 and 4. Of a setting that is given twice the last one counts.
 use Rattle.std.specs.Prelude.{ℕ, Bool, true, false, ◌||◌, List, Option, Some, None}
 use Rattle.std.specs.List.{filter_map, list_any, last_or}
+use Rattle.check_rule.specs.CheckRequests.{CheckLine, check_line}
 use Rattle.lb_config_lines.specs.declared.http_check.HttpCheck.{HttpCheck}
 use Rattle.lb_config_lines.specs.declared.setting.Balance.{Balance}
 use Rattle.lb_config_lines.specs.declared.setting.Setting.{Setting}
@@ -29,9 +30,13 @@ abbrev pub balance_in : Setting → Option Balance
 balance_in (Set.Balance balance) = Some balance
 balance_in _ = None
 
-abbrev pub http_check_in : Setting → Option HttpCheck
-http_check_in (Set.HttpCheck check) = Some check
-http_check_in _ = None
+-- the request line that an `option httpchk` gives checks
+abbrev pub request_line_of : HttpCheck → CheckLine
+request_line_of check = check_line check.method check.uri check.version
+
+abbrev pub check_line_in : Setting → Option CheckLine
+check_line_in (Set.HttpCheck check) = Some (request_line_of check)
+check_line_in _ = None
 
 abbrev pub default_backend_in : Setting → Option (List ℕ)
 default_backend_in (Set.DefaultBackend name) = Some name

@@ -1,33 +1,29 @@
-ghost use Rattle.std.specs.Prelude.{◌≡◌, None, IfOk};
-ghost use Rattle.std.specs.Arc.{arc_value};
-ghost use Rattle.std.specs.Option.{option_copied, option_or};
+ghost use Rattle.std.specs.Prelude.{◌≡◌, Some, None, IfOk};
+ghost use Rattle.std.specs.Option.{option_copied, option_map, option_or};
 ghost use Rattle.lb_config_values.specs.Servers.{check_request_at};
-ghost use Rattle.lb_config_values.specs.Values.{http_check_in, last_said};
+ghost use Rattle.lb_config_values.specs.Values.{check_line_in, last_said, request_line_of};
 
-use check_rule::CheckRule;
-use lb_acl::Text;
+use check_rule::{CheckRule, RequestLine};
 use lb_config_arguments::Endpoint;
 use lb_config_lines::{HttpCheck, Setting};
 use lb_config_sections::NumberedSetting;
 use std::alloc::{AllocError, Global};
 use std::marker::Model;
-use std::sync::Arc;
 
-/// The last `option httpchk`, if there is one. Sections and servers that are checked by it share it, since its words may be long.
+/// The request line of the last `option httpchk`, if there is one. Sections and servers that are checked under it share it, since it
+/// may be long.
 #[derive(Debug, Drop)]
 pub struct SharedCheck {
-    check: Option<Arc<HttpCheck>>,
+    line: Option<RequestLine>,
 }
 
 impl Model for SharedCheck {
     ghost use Rattle.std.specs.Prelude.{Option};
-    ghost use Rattle.std.specs.Arc.{arc_value};
-    ghost use Rattle.std.specs.Option.{option_map};
-    ghost use Rattle.lb_config_lines.specs.declared.http_check.HttpCheck.{HttpCheck};
+    ghost use Rattle.check_rule.specs.CheckRequests.{CheckLine};
 
-    ghost Value = { Option HttpCheck };
+    ghost Value = { Option CheckLine };
 
-    ghost view = { λ shared. option_map (λ check. arc_value check) shared.check };
+    ghost view = { λ shared. shared.line };
 }
 
 impl SharedCheck {
@@ -35,12 +31,12 @@ impl SharedCheck {
     pub fn none() -> Self
         ensures { result ≡ None }
     {
-        SharedCheck { check: None }
+        SharedCheck { line: None }
     }
 
     /// The last `option httpchk` of the settings, or this one where they have none. The error is want of memory.
     pub fn behind(&self, alloc: Global, settings: &[NumberedSetting]) -> Result<Self, AllocError>
-        ensures { IfOk result (λ check. check ≡ last_said self.now http_check_in settings.now) }
+        ensures { IfOk result (λ check. check ≡ last_said self.now check_line_in settings.now) }
     {
         match last_http_check(settings) {
             Some(check) => SharedCheck::of(alloc, check),
@@ -49,57 +45,39 @@ impl SharedCheck {
     }
 
     fn of(alloc: Global, check: &HttpCheck) -> Result<Self, AllocError>
-        ensures { IfOk result (λ shared. shared ≡ Some check.now) }
+        ensures { IfOk result (λ shared. shared ≡ Some (request_line_of check.now)) }
     {
-        let copy = copied_check(alloc, check)?;
-        Ok(SharedCheck {
-            check: Some(Arc::new(alloc, copy)?),
-        })
+        let (method, uri) = (check.method.as_bytes(), check.uri.as_bytes());
+        let line = RequestLine::new(alloc, method, uri, check.version)?;
+        Ok(SharedCheck { line: Some(line) })
     }
 
-    /// The same once more, without a copy of its words.
-    pub(crate) fn share(&self) -> Result<Self, AllocError>
+    /// The same once more, without a copy of its line.
+    fn share(&self) -> Result<Self, AllocError>
         ensures { IfOk result (λ shared. shared ≡ self.now) }
     {
-        match &self.check {
-            Some(check) => Ok(SharedCheck {
-                check: Some(Arc::try_clone(check)?),
+        match &self.line {
+            Some(line) => Ok(SharedCheck {
+                line: Some(line.share()?),
             }),
             None => Ok(SharedCheck::none()),
         }
     }
 
-    /// What a check sends to the endpoint.
+    /// How a server at the endpoint is checked. The line isn't copied.
     pub(crate) fn rule_at(&self, alloc: Global, endpoint: Endpoint) -> Result<CheckRule, AllocError>
         ensures { IfOk result (λ rule. rule ≡ check_request_at self.now endpoint) }
     {
-        let Some(check) = &self.check else {
-            return Ok(CheckRule::connect());
-        };
-        CheckRule::http(
-            alloc,
-            check.method.as_bytes(),
-            check.uri.as_bytes(),
-            check.version,
-            endpoint.address,
-            endpoint.port,
-        )
+        match &self.line {
+            Some(line) => CheckRule::http(alloc, line, endpoint.address, endpoint.port),
+            None => Ok(CheckRule::connect()),
+        }
     }
-}
-
-fn copied_check(alloc: Global, check: &HttpCheck) -> Result<HttpCheck, AllocError>
-    ensures { IfOk result (λ copy. copy ≡ check.now) }
-{
-    Ok(HttpCheck {
-        method: Text::new(Vec::from_slice(alloc, check.method.as_bytes())?),
-        uri: Text::new(Vec::from_slice(alloc, check.uri.as_bytes())?),
-        version: check.version,
-    })
 }
 
 /// The last `option httpchk` of the settings.
 fn last_http_check(settings: &[NumberedSetting]) -> Option<&HttpCheck>
-    ensures { option_copied result ≡ last_said None http_check_in settings.now }
+    ensures { option_map request_line_of (option_copied result) ≡ last_said None check_line_in settings.now }
 {
     let mut found = None;
     for numbered in settings {
@@ -109,7 +87,8 @@ fn last_http_check(settings: &[NumberedSetting]) -> Option<&HttpCheck>
 }
 
 fn later_check<'a>(found: Option<&'a HttpCheck>, setting: &'a Setting) -> Option<&'a HttpCheck>
-    ensures { option_copied result ≡ option_or (http_check_in setting.now) (option_copied found.entry) }
+    ensures { option_map request_line_of (option_copied result)
+        ≡ option_or (check_line_in setting.now) (option_map request_line_of (option_copied found.entry)) }
 {
     match setting {
         Setting::HttpCheck(check) => Some(check),

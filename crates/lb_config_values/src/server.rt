@@ -18,12 +18,11 @@ pub struct ServerConfig {
     endpoint: Endpoint,
     settings: ServerSettings,
     interval: u32,
-    check: SharedCheck,
+    check: CheckRule,
 }
 
 impl Model for ServerConfig {
     ghost use Rattle.lb_config_values.specs.ServerView.{ServerView, settings_view};
-    ghost use Rattle.lb_config_values.specs.Servers.{check_request_at};
 
     ghost Value = { ServerView };
 
@@ -32,29 +31,30 @@ impl Model for ServerConfig {
       endpoint = server.endpoint;
       settings = settings_view server.settings;
       interval = server.interval;
-      check_request = check_request_at server.check server.endpoint;
+      check_request = server.check;
     } };
 }
 
 impl ServerConfig {
     /// The server of a line, of which `options` say what the line and the `default-server` lines before it say. It may hold
-    /// `max_pins` pins where no `maxpins` is said.
+    /// `max_pins` pins where no `maxpins` is said. The error is want of memory.
     pub(crate) fn of(
+        alloc: Global,
         max_pins: u32,
-        check: SharedCheck,
+        check: &SharedCheck,
         options: ServerOptions,
         line: &ServerLine,
-    ) -> Self
+    ) -> Result<Self, AllocError>
         requires { max_pins ≤ 16777216 }
-        ensures { result ≡ server_of max_pins check options line.now }
+        ensures { IfOk result (λ server. server ≡ server_of max_pins check.now options line.now) }
     {
-        ServerConfig {
+        Ok(ServerConfig {
             name: line.name,
             endpoint: line.endpoint,
             settings: settings_of(max_pins, options),
             interval: options.interval.unwrap_or(2000),
-            check,
-        }
+            check: check.rule_at(alloc, line.endpoint)?,
+        })
     }
 
     /// The server's name.
@@ -85,12 +85,11 @@ impl ServerConfig {
         self.interval
     }
 
-    /// What a check of it sends. Each call makes the request anew: call it once, before the first check. The error is want of
-    /// memory.
-    pub fn check_rule(&self, alloc: Global) -> Result<CheckRule, AllocError>
-        ensures { IfOk result (λ rule. rule ≡ self.now.check_request) }
+    /// What a check of it sends.
+    pub fn check_rule(&self) -> &CheckRule
+        ensures { result.now ≡ self.now.check_request }
     {
-        self.check.rule_at(alloc, self.endpoint)
+        &self.check
     }
 }
 

@@ -37,7 +37,7 @@ pub fn read_servers(
     let mut options = defaults;
     for numbered in settings {
         let setting = &numbered.setting;
-        push_server(max_pins, check, options, setting, &mut servers)?;
+        push_server(alloc, max_pins, check, options, setting, &mut servers)?;
         options = with_default(options, setting);
     }
     Ok(servers)
@@ -45,6 +45,7 @@ pub fn read_servers(
 
 /// Puts the server behind the others, if the setting is one.
 fn push_server(
+    alloc: Global,
     max_pins: u32,
     check: &SharedCheck,
     options: ServerOptions,
@@ -56,7 +57,7 @@ fn push_server(
 {
     if let Setting::Server(line) = setting {
         let options = options_over(options, line.options);
-        let server = ServerConfig::of(max_pins, check.share()?, options, line);
+        let server = ServerConfig::of(alloc, max_pins, check, options, line)?;
         servers.push(server)?;
     }
     Ok(())

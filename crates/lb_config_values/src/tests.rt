@@ -1,4 +1,5 @@
 use crate::{Defaults, GlobalValues, ProxyValues, ServerConfig, read_servers};
+use check_rule::CheckRequest;
 use lb_config_lines::{Balance, SocketAddress};
 use lb_config_sections::{NumberedSetting, Sections, read_text};
 use server_state::{AdminState, CheckSettings, ServerSettings};
@@ -70,7 +71,7 @@ fn a_server_has_its_line_and_the_defaults_of_the_manual(rt: HostRuntime) -> Resu
     assert_eq!(rt; a.endpoint().address, Ipv4Addr::new(127, 0, 0, 1));
     assert_eq!(rt; a.endpoint().port, 8001);
     assert_eq!(rt; a.interval(), 2000);
-    assert!(rt; a.check_rule(rt.alloc())?.request().is_none());
+    assert!(rt; a.check_rule().request().is_none());
     let checked = ServerSettings {
         admin: AdminState::Ready,
         weight: 1,
@@ -118,31 +119,34 @@ fn a_default_server_counts_for_the_servers_behind_it(rt: HostRuntime) -> Result<
 
 #[test]
 fn what_a_check_sends(rt: HostRuntime) -> Result<(), Fail> {
-    let cases: [(&[u8], u32, &[u8]); 3] = [
+    let cases: [(&[u8], u32, &[u8], &[u8]); 3] = [
         (
             b"backend web\nserver a 127.0.0.1:80 check inter 1500us\noption httpchk",
             2,
-            b"OPTIONS / HTTP/1.0\r\n\r\n",
+            b"OPTIONS / HTTP/1.0\r\n",
+            b"\r\n",
         ),
         (
             b"defaults\noption httpchk /x\nbackend web\nserver a localhost:80\noption httpchk GET /up HTTP/1.1",
             2000,
-            b"GET /up HTTP/1.1\r\nHost: 127.0.0.1:80\r\n\r\n",
+            b"GET /up HTTP/1.1\r\n",
+            b"Host: 127.0.0.1:80\r\n\r\n",
         ),
         (
             b"defaults\noption httpchk /y\noption httpchk /x\ndefault-server inter 3s\nbackend web\nserver a localhost:80",
             3000,
-            b"OPTIONS /x HTTP/1.0\r\n\r\n",
+            b"OPTIONS /x HTTP/1.0\r\n",
+            b"\r\n",
         ),
     ];
-    for (text, interval, request) in cases {
+    for (text, interval, line, fields) in cases {
         let servers = servers_of(&rt, rt.alloc(), text)?;
         let Some(server) = servers.first() else {
             panic!(&rt; "no server in {text:?}");
         };
         assert_eq!(rt; server.interval(), interval, "{text:?}");
-        let rule = server.check_rule(rt.alloc())?;
-        assert!(rt; rule.request() == Some(request), "{text:?}");
+        let request = Some(CheckRequest { line, fields });
+        assert!(rt; server.check_rule().request() == request, "{text:?}");
     }
     Ok(())
 }
