@@ -15,14 +15,17 @@ pub enum Kind {
     Servers,
     /// References to the last backend.
     References,
+    /// As many frontends as may be.
+    Frontends,
 }
 
-pub const KINDS: [Kind; 5] = [
+pub const KINDS: [Kind; 6] = [
     Kind::Conditions,
     Kind::Defaults,
     Kind::LongCheck,
     Kind::Servers,
     Kind::References,
+    Kind::Frontends,
 ];
 
 impl Kind {
@@ -33,6 +36,7 @@ impl Kind {
             Kind::LongCheck => "a long check",
             Kind::Servers => "servers",
             Kind::References => "references",
+            Kind::Frontends => "frontends",
         }
     }
 
@@ -55,7 +59,7 @@ impl Kind {
 
     fn push_head(self, alloc: Global, text: &mut Text) -> Result<(), AllocError> {
         match self {
-            Kind::Conditions | Kind::Servers => Ok(()),
+            Kind::Conditions | Kind::Servers | Kind::Frontends => Ok(()),
             Kind::Defaults => {
                 text.push(b"defaults\n")?;
                 push_half(text, b"mode http\n")
@@ -77,7 +81,9 @@ impl Kind {
     fn push_part(self, alloc: Global, text: &mut Text, number: usize) -> Result<(), AllocError> {
         match self {
             Kind::Conditions => push_conditions(alloc, text, number),
-            Kind::Defaults => push_line(alloc, text, b"frontend ", number, b""),
+            Kind::Defaults | Kind::Frontends => {
+                push_line(alloc, text, b"frontend ", number, b"")
+            }
             Kind::LongCheck | Kind::Servers => push_server(alloc, text, number),
             Kind::References => text.push(b"default_backend b\n"),
         }

@@ -1,8 +1,11 @@
 -- What a line may not do because of the lines before it: names and counts of the HAProxy Configuration Manual 2.8, sections 2.1
 -- and 4. The limits themselves are this project's own: 64 backends, and in a section 128 servers, 256 lines of ACLs, 256 rules
 -- and one `stick on`.
-use Rattle.std.specs.Prelude.{◌≡◌, ℕ, ◌+◌, Bool, true, false, nat_lt, List, [], ◌∷◌, ◌++◌, length, Option, Some, None, Result, Ok, Err, if◌then◌else◌}
+use Rattle.std.specs.Prelude.{◌≡◌, ℕ, ◌+◌, true, false, nat_lt, List, [], length, Option, Some, None, Result, Ok, Err, if◌then◌else◌}
 use Rattle.std.specs.List.{list_any}
+use Rattle.std.specs.BTreeSet.{insert_key}
+use Rattle.std.specs.Cmp.Lexicographic.{slice_cmp}
+use Rattle.std.specs.Ordering.{nat_cmp}
 use Rattle.std.specs.Str.{bytes_eq}
 use Rattle.lb_config_limits.specs.declared.fault.LimitFault.{LimitFault}
 use Rattle.lb_config_limits.specs.declared.fault.LimitFault.TheVariants.{Duplicate, TooMany, SecondStick}
@@ -38,10 +41,11 @@ nothing = record { frontends = []; backends = []; servers = []; acls = 0; rules 
 abbrev pub new_section : DeclaredView → DeclaredView
 new_section d = record { frontends = d.frontends; backends = d.backends; servers = []; acls = 0; rules = 0; has_stick = false }
 
--- the names with one more, which may not be among them. A line without a name is refused for that where its words are read
+-- the names, in the order of their bytes, with one more, which may not be among them. A line without a name is refused for that
+-- where its words are read
 unfoldable pub added : List (List ℕ) → Option (List ℕ) → Result (List (List ℕ)) LimitFault
 added names None = Ok names
-added names (Some name) = if list_any (bytes_eq name) names then Err Duplicate else Ok (names ++ name ∷ [])
+added names (Some name) = if list_any (bytes_eq name) names then Err Duplicate else Ok (insert_key (slice_cmp nat_cmp) names name)
 
 -- there are fewer names than may be
 unfoldable pub with_room : ℕ → List (List ℕ) → Result (Unit {0}) LimitFault

@@ -9,6 +9,7 @@ mod declarations;
 mod fault;
 mod kind;
 mod name_set;
+mod ordered_name;
 
 pub use declarations::Declarations;
 pub use fault::{LimitError, LimitFault};

@@ -1,16 +1,19 @@
 ghost use Rattle.std.specs.Prelude.{◌≡◌, [], length};
 ghost use Rattle.lb_config_limits.specs.Limits.{Gives, added, with_room};
 
+use crate::ordered_name::OrderedName;
 use crate::{LimitError, LimitFault};
-use indexmap::IndexSet;
 use lb_types::Name;
 use std::alloc::Global;
+use std::collections::BTreeSet;
 use std::marker::Model;
 
-/// Names, each once. As a value it is the list of the names in the order in which they came.
+/// Names, each once. As a value it is the list of the names in the order of their bytes.
+///
+/// The set is ordered and not hashed, since a text may be written so that its names collide in a hash whose seed is known.
 #[derive(Drop)]
 pub(crate) struct NameSet {
-    names: IndexSet<Name>,
+    names: BTreeSet<OrderedName>,
 }
 
 impl Model for NameSet {
@@ -26,11 +29,11 @@ impl NameSet {
         ensures { result ≡ [] }
     {
         NameSet {
-            names: IndexSet::new(alloc),
+            names: BTreeSet::new(alloc),
         }
     }
 
-    /// Adds the name, if one is given. One that is there already is refused.
+    /// Adds the name, if one is given. One that is there already is refused. It compares with about the logarithm of the names.
     #[tactic(auto, unfolding(crate::specs::Limits::added))]
     pub(crate) fn add(&mut self, name: Option<Name>) -> Result<(), LimitError>
         ensures { Gives (λ _. self.new) result (added self.old name) }
@@ -38,7 +41,7 @@ impl NameSet {
         let Some(name) = name else {
             return Ok(());
         };
-        if !self.names.insert(name)? {
+        if !self.names.insert(OrderedName::new(name))? {
             return Err(LimitFault::Duplicate.into());
         }
         Ok(())
