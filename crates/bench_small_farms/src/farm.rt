@@ -56,6 +56,17 @@ impl Farm {
             .iter()
             .fold(1, |sum: u64, pin| sum.saturating_add(u64::from(pin.cost)))
     }
+
+    /// Whether no server gets more pins than it has room for, where pins go to these spots. One that isn't usable has no room.
+    pub(crate) fn has_room(&self, spots: &[Spot]) -> bool {
+        self.capacities.iter().enumerate().all(|(server, capacity)| {
+            let load = spots
+                .iter()
+                .filter(|spot| usize::from(**spot) == server.saturating_add(1))
+                .count();
+            load <= usize::from(capacity.unwrap_or(0))
+        })
+    }
 }
 
 impl SmallPin {

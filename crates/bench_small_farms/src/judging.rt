@@ -1,7 +1,8 @@
 //! What the checker and the planner say of a farm, against all assignments of its pins.
 
-use crate::assignments::{Found, try_all};
+use crate::assignments::{Judged, try_all};
 use crate::draft::Draft;
+use crate::every::Every;
 use crate::farm::{Farm, PINS, SERVERS, SmallPin, Spot, listed, place_of, set_of};
 use cert_check::{CheckFault, check};
 use dual_cert_plan::{Plan, Server, Sheet};
@@ -12,68 +13,136 @@ use pin_rows::{PlainPin, numbered_view};
 use pin_set::Score;
 use std::alloc::{AllocError, Global};
 
-/// Whether the checker judges assignments of the pins of the farm's view as it has to: at prices from 0 to two more than
-/// going without a server costs it accepts the plan of a best assignment, with its score, and at the same prices it
-/// refuses the plan of a next best one as not shown best.
-pub(crate) fn view_agrees(alloc: Global, farm: &Farm) -> Result<bool, AllocError> {
+/// The most pins of a view of which each assignment is judged. Of more pins two are: a best one and a next best one.
+const EACH_IS_JUDGED: usize = 4;
+
+/// A farm's view as the checker sees it, with what its assignments are judged by.
+#[derive(Clone, Copy)]
+struct Case<'a> {
+    farm: &'a Farm,
+    sheet: &'a Sheet,
+    /// How well a best assignment does.
+    best: Judged,
+    /// The prices that show that.
+    prices: &'a [u64],
+}
+
+/// How many plans the checker judged, each as it has to: of assignments of the pins of the farm's view, at prices from 0 to
+/// two more than going without a server costs. None where it judged one otherwise, or where there are no such prices.
+pub(crate) fn view_agrees(alloc: Global, farm: &Farm) -> Result<Option<u64>, AllocError> {
     let found = try_all(farm);
     let (Some(sheet), Some(best)) = (sheet_of_view(alloc, farm)?, &found.best) else {
-        return Ok(false);
+        return Ok(None);
     };
     let unplaced_cost = farm.unplaced_cost();
     let prices = found.prices(unplaced_cost);
     let most = unplaced_cost.saturating_add(2);
-    let accepted = verdict(alloc, farm, &sheet, best, &prices)?;
-    if accepted != Some(Ok(score(farm, best))) || prices.iter().any(|price| *price > most) {
-        return Ok(false);
+    if prices.iter().any(|price| *price > most) {
+        return Ok(None);
     }
-    let Some(next) = &found.next else {
-        return Ok(true);
+    let case = Case {
+        farm,
+        sheet: &sheet,
+        best: best.judged,
+        prices: &prices,
     };
-    let worse = verdict(alloc, farm, &sheet, next, &prices)?;
-    Ok(worse == Some(Err(CheckFault::NotShown)))
+    if farm.pins.len() <= EACH_IS_JUDGED {
+        return case.each_agrees(alloc);
+    }
+    let mut plans = 0u64;
+    for judged in [found.best, found.next].iter().flatten() {
+        if !case.agrees(alloc, &judged.spots)? {
+            return Ok(None);
+        }
+        plans = plans.saturating_add(1);
+    }
+    Ok(Some(plans))
 }
 
-/// Whether the checker accepts the planner's plan for the farm's sheet, and the plan does as well as a best assignment.
-pub(crate) fn sheet_agrees(alloc: Global, farm: &Farm) -> Result<bool, AllocError> {
+impl Case<'_> {
+    /// How many plans the checker judged, of all assignments, each as it has to.
+    fn each_agrees(&self, alloc: Global) -> Result<Option<u64>, AllocError> {
+        let mut every = Every::new(alloc, self.farm)?;
+        let mut plans = 0u64;
+        for _ in 0..u64::MAX {
+            if !self.agrees(alloc, every.spots())? {
+                return Ok(None);
+            }
+            plans = plans.saturating_add(1);
+            if !every.advance(self.farm) {
+                break;
+            }
+        }
+        Ok(Some(plans))
+    }
+
+    /// Whether the checker says what it has to of the plan of this assignment.
+    fn agrees(&self, alloc: Global, spots: &[Spot]) -> Result<bool, AllocError> {
+        let servers = self.sheet.servers();
+        let Some(plan) = plan_of(alloc, servers, &self.farm.pins, spots, self.prices)? else {
+            return Ok(false);
+        };
+        Ok(check(self.sheet, &plan) == self.due(spots))
+    }
+
+    /// What the checker has to say of the plan of an assignment, by the rules: a pin goes only where it may, no server takes
+    /// more pins than it has room for, and of the others those alone are shown best that do as well as a best one.
+    fn due(&self, spots: &[Spot]) -> Result<Score, CheckFault> {
+        let mut moves = self.farm.pins.iter().zip(spots);
+        if !moves.all(|(pin, spot)| pin.may_go(*spot)) {
+            return Err(CheckFault::NotPermitted);
+        }
+        if !self.farm.has_room(spots) {
+            return Err(CheckFault::OverCapacity);
+        }
+        let score = score(self.farm, spots);
+        let judged = Judged {
+            unplaced: score.unplaced,
+            cost: score.cost,
+        };
+        if judged == self.best {
+            Ok(score)
+        } else {
+            Err(CheckFault::NotShown)
+        }
+    }
+}
+
+/// One plan, if the checker accepts the planner's plan for the farm's sheet, and the plan does as well as a best assignment.
+pub(crate) fn sheet_agrees(alloc: Global, farm: &Farm) -> Result<Option<u64>, AllocError> {
     let found = try_all(farm);
     let (Some(sheet), Some(best)) = (sheet_of(alloc, farm)?, &found.best) else {
-        return Ok(false);
+        return Ok(None);
     };
     let planned = plan(alloc, &sheet)?;
     let Ok(score) = check(&sheet, planned.plan()) else {
-        return Ok(false);
+        return Ok(None);
     };
     let pins = farm.pins.len() as u64;
-    Ok(
-        score.pins == pins
-            && score.unplaced == best.judged.unplaced
-            && score.cost == best.judged.cost
-            && planned.pushes() <= pins,
-    )
+    let agrees = score.pins == pins
+        && score.unplaced == best.judged.unplaced
+        && score.cost == best.judged.cost
+        && planned.pushes() <= pins;
+    Ok(agrees.then_some(1))
 }
 
-/// What the checker says of the plan of an assignment at these prices; none where there is no such plan.
-fn verdict(
-    alloc: Global,
-    farm: &Farm,
-    sheet: &Sheet,
-    found: &Found,
-    prices: &[u64],
-) -> Result<Option<Result<Score, CheckFault>>, AllocError> {
-    let plan = plan_of(alloc, sheet.servers(), &farm.pins, &found.spots, prices)?;
-    Ok(plan.map(|plan| check(sheet, &plan)))
-}
-
-/// The score of an assignment.
-fn score(farm: &Farm, found: &Found) -> Score {
-    let moves = farm.pins.iter().zip(&found.spots);
-    Score {
-        pins: farm.pins.len() as u64,
-        unplaced: found.judged.unplaced,
-        moved: moves.filter(|(pin, spot)| pin.place != **spot).count() as u64,
-        cost: found.judged.cost,
+/// The score of an assignment, counted pin by pin.
+fn score(farm: &Farm, spots: &[Spot]) -> Score {
+    let mut score = Score {
+        pins: 0,
+        unplaced: 0,
+        moved: 0,
+        cost: 0,
+    };
+    for (pin, spot) in farm.pins.iter().zip(spots) {
+        score.pins = score.pins.saturating_add(1);
+        score.unplaced = score.unplaced.saturating_add(u64::from(*spot == 0));
+        if pin.place != *spot {
+            score.moved = score.moved.saturating_add(1);
+            score.cost = score.cost.saturating_add(u64::from(pin.cost));
+        }
     }
+    score
 }
 
 /// The sheet of the farm's view.
