@@ -137,6 +137,7 @@ fn the_first_fault_from_the_left_is_told(rt: HostRuntime) -> Result<(), Fail> {
         ("set weight web x", UnknownCommand),
         ("set weight web", UnknownCommand),
         ("set server web/a speed", UnknownCommand),
+        ("set server web/a health stopping", UnknownCommand),
         ("set server web/a state", MissingWord),
         ("set server web/a weight", MissingWord),
         ("set maxconn web/a 7", UnknownCommand),
@@ -206,6 +207,27 @@ fn a_number_is_decimal_digits_below_2_to_the_64(rt: HostRuntime) -> Result<(), F
         let read = read_commands(rt.alloc(), line.as_bytes())?;
         let wanted = number.map(|weight| Command::Set(server, Setting::Weight(weight)));
         assert_eq!(rt; read.as_slice(), [wanted].as_slice(), "{word}");
+    }
+    Ok(())
+}
+
+#[test]
+fn each_number_may_be_the_largest_and_no_larger(rt: HostRuntime) -> Result<(), Fail> {
+    let largest = 18446744073709551615;
+    let cases = [
+        ("set weight web/a", Setting::Weight(largest)),
+        ("set server web/a weight", Setting::Weight(largest)),
+        ("set maxconn server web/a", Setting::MaxConnections(largest)),
+        ("set maxpins server web/a", Setting::MaxPins(largest)),
+    ];
+    for (words, setting) in cases {
+        let line = format!(in rt.alloc();
+            "{words} 18446744073709551615; {words} 18446744073709551616"
+        )?;
+        let read = read_commands(rt.alloc(), line.as_bytes())?;
+        let server = server_named("web", "a")?;
+        let wanted = [Ok(Command::Set(server, setting)), Err(BadNumber)];
+        assert_eq!(rt; read.as_slice(), wanted.as_slice(), "{line}");
     }
     Ok(())
 }

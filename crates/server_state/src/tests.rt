@@ -234,6 +234,17 @@ fn each_change_is_refused_for_the_first_cause(rt: HostRuntime) -> Result<(), Fai
 }
 
 #[test]
+fn a_farm_is_empty_where_it_has_no_server(rt: HostRuntime) -> Result<(), Fail> {
+    let none = Farm::new(rt.alloc(), &[], false)?;
+    assert!(rt; none.is_empty());
+    assert_eq!(rt; none.len(), 0);
+    let one = Farm::new(rt.alloc(), &[plain(false)], false)?;
+    assert!(rt; !one.is_empty());
+    assert_eq!(rt; one.len(), 1);
+    Ok(())
+}
+
+#[test]
 fn each_setter_sets_its_own(rt: HostRuntime) -> Result<(), Fail> {
     let a = ServerId::new(0);
     let mut farm = Farm::new(rt.alloc(), &[checked(2, 3)], false)?;
