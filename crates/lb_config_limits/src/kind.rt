@@ -22,7 +22,7 @@ pub(crate) enum Kind {
     Acl,
     /// A rule: `use_backend`, `use-server` or `pin-cost`.
     Rule,
-    /// `stick on`.
+    /// A line `stick`.
     Stick,
 }
 

@@ -34,6 +34,7 @@ impl MachineState {
     {
         let view = self.view(alloc)?;
         let sheet = group(alloc, &view, self.version)?;
+        // For its clause `lawful`.
         let _ = sheet.servers();
         Ok(sheet)
     }
