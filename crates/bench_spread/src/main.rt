@@ -1,6 +1,5 @@
 //! Times `group`, `check` and `spread` on a view of as many pins as the argument says, half of which move, with a plan of up
-//! to 1,000 rows. What was done is printed, and the times from the start of `group` to the end of each go to
-//! standard error.
+//! to 1,000 rows. What was done is printed, and the times go to standard error.
 #![tactic(auto)]
 
 mod big_farm;

@@ -1,6 +1,6 @@
-//! How long the text of a plan takes to be written through a buffered writer. The word of the command line says how many
-//! rows the plan is to have, at most 1048512 (1000 without a word). What was written is compared with the text that the plan
-//! was read from; the times go to standard error.
+//! How long the text of a plan takes to be written through a buffered writer. The words of the command line say how many
+//! rows the plan is to have (1000 without a word). What was written is compared with the text that the plan was read from;
+//! the times go to standard error.
 #![tactic(auto)]
 
 use dual_cert::{read_plan, write_plan};

@@ -13,7 +13,7 @@ pub fn cost_order()
     ensures moves_cost_less { MovesCostLess }
 {}
 
-/// A lawful assignment that meets the bound of some prices is best.
+/// An assignment that meets the bound of some prices is best.
 pub fn best_at_bound()
     ensures { BestAtBound }
 {}

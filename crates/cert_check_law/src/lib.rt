@@ -1,4 +1,4 @@
-//! The laws behind the check of a plan: why prices can show that no assignment is better.
+//! The laws behind the check of a plan. Private to `cert_check` and the crates above it.
 //!
 //! Each call does nothing: its contract is a law, which holds whatever runs. Start at `specs/Laws.antt`; the lemmas that
 //! upper crates cite are in `proofs/`.

@@ -19,7 +19,7 @@ pub fn words_say_a_command()
 
 /// The fault that is told is the first one from the left.
 pub fn the_first_fault_is_told()
-    // A fault stands, whatever words follow, unless it is that a word is missing.
+    // A fault stands, whatever words follow.
     ensures stays { (words more : List Word) (fault : CommandFault) → fault ≢ MissingWord
         → command_of words ≡ Err fault → command_of (words ++ more) ≡ Err fault }
     // A word is missing only where other words make a command of it.
@@ -28,7 +28,7 @@ pub fn the_first_fault_is_told()
     // Behind a whole command each word is one too many.
     ensures ends { (words : List Word) (word : Word) (more : List Word) (command : Command)
         → command_of words ≡ Ok command → command_of (words ++ word ∷ more) ≡ Err UnknownCommand }
-    // A number is told as bad only where a word is no number, and with 0 in its place the words up to it are a command.
+    // A number is told as bad only where that word alone is wrong: with 0 in its place the words up to it are a command.
     ensures number { (words : List Word) → command_of words ≡ Err BadNumber
         → (front more : List Word) × (bad : Word) × (command : Command)
         × (words ≡ front ++ bad ∷ more) × (number_in bad ≡ Err BadNumber)

@@ -72,8 +72,7 @@ impl Plan {
     }
 
     /// The sheet that the plan speaks of: its version, its servers without their prices, and its rows' pins by kind.
-    /// One walk over servers and rows; memory for a list of the servers, and for as many groups as there are
-    /// kinds in the rows.
+    /// One walk over servers and rows; memory for as many groups as there are kinds in the rows.
     pub fn sheet(&self, alloc: Global) -> Result<Sheet, AllocError>
         ensures exact { IfOk result (λ sheet. sheet ≡ own_sheet self.now) }
         ensures counts { IfOk result (λ sheet. (kind : PinKind)

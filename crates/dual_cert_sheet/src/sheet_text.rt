@@ -52,7 +52,7 @@ pub fn a_fault_stays()
         → sheet_of_text front ≡ Err fault → sheet_of_text (front ++ rest) ≡ Err fault }
 {}
 
-/// Each shorter beginning of a sheet's text is truncated, so no other fault is found in the beginning of a text that is a sheet's.
+/// Each beginning of a sheet's text is truncated, so no other fault is found in the beginning of a text that is a sheet's.
 pub fn a_beginning_is_truncated()
     ensures { (sheet : SheetParts) (front rest : List ℕ) → IsSheet sheet → rest ≢ []
         → sheet_spelling sheet ≡ front ++ rest → sheet_of_text front ≡ Err Truncated }

@@ -50,7 +50,7 @@ pub fn a_fault_stays()
         → plan_of_text front ≡ Err fault → plan_of_text (front ++ rest) ≡ Err fault }
 {}
 
-/// Each shorter beginning of a plan's text is truncated, so no other fault is found in the beginning of a text that is a plan's.
+/// Each beginning of a plan's text is truncated, so no other fault is found in the beginning of a text that is a plan's.
 pub fn a_beginning_is_truncated()
     ensures { (plan : PlanParts) (front rest : List ℕ) → IsPlan plan → rest ≢ []
         → spelling plan ≡ front ++ rest → plan_of_text front ≡ Err Truncated }

@@ -1,6 +1,6 @@
 use thiserror::Error;
 
-/// A write to the writer failed; a beginning of the text went out.
+/// A write to the writer failed, so not all of the text went out.
 #[derive(Clone, Copy, Debug, PartialEq, Eq, Error)]
 #[error("the text can't be written")]
 pub struct WriteFailed;

@@ -2,7 +2,7 @@
 //! the least cost.
 //!
 //! Promised: `plan` answers for every sheet, unless memory is short, and a checker accepts each plan that it gives. It pushes
-//! pins no more often than there are pins, and the looks that it takes for that are bounded. Start at `plan`.
+//! pins no more often than there are pins, and the looks that it takes for that are bounded. Start at `planner`.
 #![tactic(auto)]
 
 mod planned;

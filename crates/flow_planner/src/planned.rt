@@ -55,8 +55,7 @@ impl Planned {
         self.pushes
     }
 
-    /// How many times a search, or the push behind it, tested whether a group's pins may go from one option to another. What
-    /// the first placing asks isn't counted: it moves no pin from an option to another.
+    /// How many times it was tested whether a group's pins may go from one option to another.
     pub fn looks(&self) -> u128
         ensures { result ≡ self.now.looks }
     {

@@ -12,13 +12,8 @@ use std::alloc::{AllocError, Global};
 
 /// A best plan for the sheet, with prices that show that it is best. The only failure is want of memory.
 ///
-/// With `S` servers and `G` groups it asks for `4 * (S + 1) * G + 17 * (S + 1)^2 + 48 * (S + 1)` bytes before it begins. The
-/// plan's own memory comes last, since how many rows it has is known only once the pins are placed: there are at most
-/// `(S + 1) * G`, and no more than pins. A row takes 64 bytes, in a list that doubles where it is full and may lie beside the
-/// one before for a moment, and a server 88.
-///
-/// The first placing walks over the options twice for each group, and makes no push and no look. What follows is bounded by
-/// `pushes` and `looks`.
+/// With `S` servers and `G` groups it asks for `4 * (S + 1) * G + 17 * (S + 1)^2 + 48 * (S + 1)` bytes before it begins, and
+/// for the plan's rows and servers at the end.
 pub fn plan(alloc: Global, sheet: &Sheet) -> Result<Planned, AllocError>
     // A checker accepts the plan for the sheet.
     ensures accepted { IfOk result (λ planned. IsAccepted sheet.now planned.plan) }

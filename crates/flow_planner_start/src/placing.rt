@@ -62,7 +62,7 @@ fn fill(network: &Network, counts: &mut [u32], loads: &mut [u32], group: usize)
     put(network, counts, loads, group, home, left);
 }
 
-/// Places all pins, where none is placed yet. Two walks over the options for each group; no push and no look.
+/// Places all pins, where none is placed yet. Three walks over the options for each group; no push and no look.
 pub fn start(network: &Network, counts: &mut [u32], loads: &mut [u32])
     requires roomy { IsRoomy network.now counts.old loads.old }
     requires empty { (o g : ℕ) → o < options network.now → g < size network.now → used_of (size network.now) counts.old o g ≡ 0 }

@@ -1,4 +1,4 @@
--- The configuration that the sections of a text stand for: HAProxy Configuration Manual 2.8, sections 2.1, 3 and 4. A `defaults`
+-- The configuration that the sections of a text stand for: HAProxy Configuration Manual 2.8, sections 2.5, 3 and 4. A `defaults`
 -- section gives values to the sections behind it up to the next `defaults`, which starts anew. A `listen` section is a frontend and
 -- a backend. That names are declared, and once, is checked before.
 use Rattle.std.specs.Prelude.{ℕ, List, [], ◌∷◌, ◌++◌, map, Option, Some, None, Result, Ok, unwrap_or, if◌then◌else◌}

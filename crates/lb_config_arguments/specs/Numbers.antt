@@ -1,4 +1,4 @@
--- Numbers, times and sizes in a configuration: HAProxy Configuration Manual 2.8, sections 2.5 ("Time format") and `stick-table`
+-- Numbers, times and sizes in a configuration: HAProxy Configuration Manual 2.8, sections 2.4 ("Time format") and `stick-table`
 -- (`size`). A time in microseconds is rounded up to a millisecond, which is a choice of this project.
 use Rattle.std.specs.Prelude.{ℕ, ◌*◌, ◌^◌, ◌&&◌, ◌==◌, nat_lt, nat_le, List, length, take, drop, Option, Some, None, Result, Ok, Err, codes, bytes_eq, if◌then◌else◌}
 use Rattle.std.specs.Int.{div_ceil}

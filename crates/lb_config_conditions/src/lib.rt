@@ -1,7 +1,7 @@
 //! ACLs, conditions and rules of a configuration as words of a line.
 //!
 //! Promised: each reader gives exactly what its function in `specs/` gives, the value or the first fault from the left. A condition
-//! keeps the names of its ACLs: they are looked up when all lines are read. Start at `read_server_rule`; a word's meaning in a
+//! keeps the names of its ACLs: they are looked up when all lines are read. Start at `read_rule_cond`; a word's meaning in a
 //! condition is in `specs/CondLines`, in an ACL in `specs/AclLines`.
 #![tactic(auto)]
 

@@ -22,7 +22,7 @@ pub(crate) enum Kind {
     Acl,
     /// A rule: `use_backend`, `use-server` or `pin-cost`.
     Rule,
-    /// A line `stick`.
+    /// `stick on`.
     Stick,
 }
 

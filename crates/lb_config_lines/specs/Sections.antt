@@ -1,4 +1,4 @@
--- Sections: HAProxy Configuration Manual 2.8, sections 2.1 and 4.
+-- Sections: HAProxy Configuration Manual 2.8, sections 2.5 and 4.
 use Rattle.std.specs.Prelude.{ℕ, Bool, true, false, List, [], ◌∷◌, Option, Some, None, ◌||◌, codes, bytes_eq, if◌then◌else◌}
 use Rattle.lb_config_lines.specs.declared.statement.Section.{Section}
 use Rattle.lb_config_lines.specs.declared.statement.Section.TheVariants.{Global, Defaults, Frontend, Backend, Listen}

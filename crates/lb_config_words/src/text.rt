@@ -15,8 +15,8 @@ const MAX_BYTES: usize = 1_048_576;
 ///
 /// A text of more than 1048576 bytes is `TooLong`, and else one that is not UTF-8 is `NotUtf8` at the line of its first bad
 /// byte. Lines end with LF or with CR LF, the last one's end may be missing, and a CR elsewhere is a byte of a word. Words
-/// are separated by spaces and tabs; quotes, backslashes and comments are resolved. A few walks over the text; the memory
-/// is that of the words.
+/// are separated by spaces and tabs; quotes, backslashes and comments are resolved. One walk over the text, another one
+/// over what stands in double quotes; the memory is that of the words.
 #[tactic(auto, unfolding(crate::specs::Texts::reading))]
 pub fn read_lines(alloc: Global, text: &[u8]) -> Result<Vec<Line>, WordsFault>
     ensures { Gives (λ lines. lines.items) result (reading text.now) }

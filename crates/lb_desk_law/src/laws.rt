@@ -5,9 +5,8 @@ ghost use Rattle.lb_desk_law.specs.LawfulViews.{ViewsAreLawful};
 ghost use Rattle.lb_desk_law.specs.Parts.{PartsAreHistories};
 ghost use Rattle.lb_desk_law.specs.Examples.{RoundOfTwo, RoundOfFewer, LeastOfTwo, FirstOfTwo};
 
-/// Of each install of each history: it is stale exactly where the plan's version isn't the table's, so where the view has
-/// changed since it was, and then changes nothing; else it is refused exactly as the check refuses it; else each pin is kept,
-/// and the new places are lawful and best.
+/// Of each install of each history: it is stale exactly where the view has changed, and then changes nothing; else it is
+/// refused exactly as the check refuses it; else each pin is kept, and the new places are lawful and best.
 pub fn installs_are_stale_or_best()
     ensures stale { OfEachInstall IsStaleExactly }
     ensures changed { SinceEachPoint IsStaleOnceChanged }
@@ -23,7 +22,7 @@ pub fn accepted_plans_are_never_bad()
     ensures { AcceptedAreNeverBad }
 {}
 
-/// In every history of a lawful backend the view is lawful, so that a planner may be asked.
+/// In every history of a backend the view is lawful, so that there is a sheet of it, and a planner may be asked.
 pub fn views_are_lawful()
     ensures { ViewsAreLawful }
 {}

@@ -1,9 +1,9 @@
 //! What the machine of `lb_desk_model` is worth: the laws of whole histories, whoever asked for their events, in whatever
-//! order.
+//! order. Private to `lb_desk`.
 //!
-//! Promised, in every history: an install answers Stale, and changes nothing, exactly where the plan's version isn't the
-//! table's, so where the view has changed since it was; an installed plan keeps each pin once, and is best for the view that it
-//! met. Each call does nothing: its contract is a law. Start at `specs/Headline.antt`.
+//! Promised, in every history: an install answers Stale, and changes nothing, exactly where the view has changed since
+//! the plan's version; an installed plan keeps each pin once, and is best for the view that it met. Each call does
+//! nothing: its contract is a law. Start at `specs/Headline.antt`.
 #![tactic(auto)]
 
 mod laws;

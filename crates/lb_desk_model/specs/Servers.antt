@@ -37,7 +37,7 @@ pub record Closes (old : State) (server : ℕ) (new : State) : Type 0 where
 
 -- ---- checks
 
--- the same checks with one result more
+-- the same server with one result more
 abbrev pub with_result : Checks → Bool → Checks
 with_result checks ok = record checks { results = checks.results ++ ok ∷ [] }
 

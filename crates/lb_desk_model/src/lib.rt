@@ -1,7 +1,7 @@
 //! The machine that one backend is: its events, its replies, and what each event does.
 //!
-//! Promised here is little that runs: values keep what they were made of. The definitions in `specs/` say which reply goes with
-//! which event and what state follows. `lb_desk_law` proves what they are worth, `lb_desk_plain` is a machine that meets them. Start at
+//! Promised here is nothing that runs: the definitions in `specs/` say which reply goes with which event and what state
+//! follows. `lb_desk_law` proves what they are worth, `lb_desk_plain` is a machine that meets them. Start at
 //! `specs/Steps.antt`.
 #![tactic(auto)]
 

@@ -28,7 +28,7 @@ pub enum Refusal {
     OutOfRange,
     /// A health or a check's result is for a server that isn't checked.
     NotChecked,
-    /// As many connections are open as the server's `maxconn` says, or more.
+    /// As many connections are open as the server's `maxconn` says.
     Full,
     /// The server doesn't serve.
     NotServing,

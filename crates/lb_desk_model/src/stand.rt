@@ -4,6 +4,6 @@ use lb_types::ServerId;
 #[derive(Clone, Copy, Debug, PartialEq, Eq, Hash)]
 pub struct Stand {
     pub server: ServerId,
-    /// 1 to the server's weight; the cursor may stand above it, once the weight is lowered.
+    /// 1 to the server's weight.
     pub turn: u16,
 }

@@ -34,7 +34,6 @@ impl Machine {
     pub fn open(alloc: Global, backend: &Backend) -> Result<Self, AllocError>
         ensures { IfOk result (λ machine. machine ≡ opening backend.now) }
     {
-        // For its clause `lawful`, which the invariant needs.
         let _servers = backend.servers();
         let state = MachineState::open(alloc, backend)?;
         Ok(Machine { state })

@@ -34,7 +34,6 @@ impl MachineState {
     {
         let view = self.view(alloc)?;
         let sheet = group(alloc, &view, self.version)?;
-        // For its clause `lawful`.
         let _ = sheet.servers();
         Ok(sheet)
     }

@@ -6,7 +6,7 @@ use std::marker::Model;
 
 /// A set of servers of one backend. Sets are ordered as the numbers whose bit `i` stands for server `i`.
 ///
-/// Every call is a few machine instructions.
+/// Every call is one or two machine instructions.
 #[derive(Clone, Copy, Debug, PartialEq, Eq, PartialOrd, Ord, Hash)]
 pub struct ServerSet {
     bits: u128,
@@ -56,7 +56,7 @@ impl ServerSet {
         }
     }
 
-    /// The servers that either of the sets holds.
+    /// The servers that one of the sets holds.
     pub fn union(self, other: ServerSet) -> Self
         ensures members { (s : ℕ) → has result s ≡ (has self s || has other s) }
         ensures exact { result ≡ union self other }

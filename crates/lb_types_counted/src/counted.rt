@@ -56,7 +56,6 @@ impl<W: Write> Counted<W> {
         ensures ok { IfOk result (λ taken. WritesWhole self.old self.new (take taken bytes.now)) }
         ensures err { OnErr result (WritesFront self.old self.new bytes.now) }
     {
-        // Bounded so that it returns; no machine tries so often.
         for _ in 0..u64::MAX {
             match self.write(bytes) {
                 Ok(0) => return Err(io::Error::from(ErrorKind::WriteZero)),

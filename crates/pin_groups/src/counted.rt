@@ -49,7 +49,7 @@ pub fn sheet_of(
     Ok(Sheet::new(version, listed, groups))
 }
 
-pub(crate) fn groups_counted(
+fn groups_counted(
     alloc: Global,
     usable: ServerSet,
     counts: &[PinCount],

@@ -1,7 +1,6 @@
 ghost use Rattle.std.specs.Prelude.{◌≡◌, Some, None, [], ◌∷◌, map, IfOk};
 ghost use Rattle.pin_set.specs.Views.{kind_of};
 
-use crate::counted::groups_counted;
 use crate::grouping::groups_of;
 use crate::listed::listed_servers;
 use crate::spreading::{first_left, spread_pins};
@@ -92,34 +91,6 @@ fn counts_give_the_sheet_of_their_view(rt: HostRuntime) -> Result<(), Fail> {
     Ok(())
 }
 
-// Of three servers the second isn't usable: who wants it may go to both others, as who wants none may. A count of 0 is no group.
-#[test]
-fn counts_with_one_permitted_set_make_one_group(rt: HostRuntime) -> Result<(), Fail> {
-    let a = ServerId::new(0);
-    let none = ServerSet::empty();
-    let only_a = none.with(a);
-    let only_b = none.with(ServerId::new(1));
-    let usable = only_a.with(ServerId::new(2));
-    let counts = [
-        one_count(Some(a), none, 2),
-        one_count(Some(a), only_a, 4),
-        one_count(Some(a), only_b, 3),
-        one_count(None, none, 0),
-    ];
-    let groups = groups_counted(rt.alloc(), usable, &counts)?;
-    let wanted = [(only_a, 4), (usable, 5)];
-    assert_eq!(rt; groups.len(), wanted.len());
-    for (group, (permitted, count)) in groups.iter().zip(wanted) {
-        let kind = PinKind {
-            place: Some(a),
-            permitted,
-            cost: 1,
-        };
-        assert_eq!(rt; *group, Group { kind, count });
-    }
-    Ok(())
-}
-
 // Two pins of one kind at a, of which the plan keeps one, and one that has no server and gets none.
 #[test]
 fn a_plan_is_spread_over_the_pins_of_a_view(rt: HostRuntime) -> Result<(), Fail> {
@@ -161,17 +132,6 @@ fn the_first_row_with_pins_left_is_found_from_a_place_on(rt: HostRuntime) {
     assert_eq!(rt; first_left(&left, 0), 0);
     assert_eq!(rt; first_left(&left, 1), 3);
     assert_eq!(rt; first_left(&left, 4), 5);
-}
-
-fn one_count(place: Place, want: ServerSet, count: u64) -> PinCount
-    ensures { result.count ≡ count }
-{
-    PinCount {
-        place,
-        want,
-        cost: 1,
-        count,
-    }
 }
 
 fn view_server(name: Name, capacity: u32) -> ViewServer {

@@ -1,6 +1,6 @@
 //! What a pin is, what an assignment of places to pins costs, and which assignments are best.
 //!
-//! Promised: `permitted`, `honoured` and `score` are their definitions in `specs/Pins.antt` and `specs/Rows.antt`.
+//! Promised: `permitted`, `honoured` and `score` are their definitions in `specs/Pins.antt` and `specs/Assignments.antt`.
 //! No call takes memory but those that copy a key. Start at `View`.
 #![tactic(auto)]
 

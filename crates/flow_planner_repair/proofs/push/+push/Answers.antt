@@ -21,7 +21,6 @@ returns-then-option-start t c =
       cheapest = λ price tight cheapest. cheapest;
       forgotten = forgotten_none network used c.args.arcs.now;
       looks = omega arith;
-      grows = omega arith;
     }
 
 pub pins_of-held-requires : goal.pins_of-held-requires
@@ -145,5 +144,4 @@ returns t c =
       forgotten = forgotten_both network old middle new c.args.arcs.now c.push-moved.new.arcs c.forget_move.new.arcs made.forgotten
           (c.forget_move.ensures.forgotten middle move);
       looks = omega (arith, c.forget_move.ensures.looks, made.looks, mul-le-mul_right (options network) tied.earlier);
-      grows = omega (arith, c.forget_move.ensures.grows, made.grows, mul-le-mul_right (options network) tied.earlier);
     })

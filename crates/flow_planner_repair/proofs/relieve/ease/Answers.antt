@@ -14,7 +14,6 @@ loop-loads-init c = record {
   pushes = omega arith;
   fits = λ o within fits. fits;
   looks = omega arith;
-  grows = omega arith;
 }
 
 pub relieve-requires : goal.relieve-requires
@@ -47,7 +46,6 @@ loop-loads-preserved c =
       pushes = omega (arith, c.relieve.ensures.less, here.invariant.pushes);
       fits = λ o within fits. c.relieve.ensures.fits o within (here.invariant.fits o within fits);
       looks = omega (arith, c.relieve.ensures.looks, here.invariant.looks);
-      grows = omega (arith, c.relieve.ensures.grows, here.invariant.grows);
     }
 
 pub loop-loads-smaller : goal.loop-loads-smaller
@@ -63,5 +61,4 @@ returns c =
       fits = here.invariant.fits;
       here = omega (arith, c.loop-loads-test.false, c.capacity.ensures, at-read here.loads c.args.start);
       looks = here.invariant.looks;
-      grows = here.invariant.grows;
     }

@@ -11,7 +11,6 @@ invariant-loop-loads l = record {
   pushes : l.pushes + excess l.network (at l.loads) ≤ excess l.network (at l.fn.loads);
   fits : (o : ℕ) → o < options l.network → at l.fn.loads o ≤ capacity l.network o → at l.loads o ≤ capacity l.network o;
   looks : l.arcs.looks ≤ l.fn.arcs.looks + l.pushes * most_looks l.network;
-  grows : l.fn.arcs.looks ≤ l.arcs.looks;
 }
 
 abbrev pub decreases-loop-loads : goal.decreases-loop-loads

@@ -14,7 +14,6 @@ loop-start-init c = record {
   pushes = omega arith;
   within = λ o below. absurd (omega arith);
   looks = omega arith;
-  grows = omega arith;
 }
 
 pub ease-pushes-requires : goal.ease-pushes-requires
@@ -48,7 +47,6 @@ loop-start-preserved c =
             | inr other ↦ c.ease-pushes.ensures.fits o (omega (arith, c.options-start-end.ensures.exact)) (here.invariant.within o (omega arith))
           ];
       looks = omega (arith, c.ease-pushes.ensures.looks, here.invariant.looks);
-      grows = omega (arith, c.ease-pushes.ensures.grows, here.invariant.grows);
     }
 
 pub returns : goal.returns
@@ -60,5 +58,4 @@ returns c =
       within = λ o within. here.invariant.within o (omega (arith, c.options-start-end.ensures.exact));
       pushes = omega (arith, here.invariant.pushes);
       looks = here.invariant.looks;
-      grows = here.invariant.grows;
     }

@@ -11,5 +11,4 @@ invariant-loop-start l = record {
   pushes : l.pushes + excess l.network (at l.loads) ≤ excess l.network (at l.fn.loads);
   within : (o : ℕ) → o < l.start → at l.loads o ≤ capacity l.network o;
   looks : l.arcs.looks ≤ l.fn.arcs.looks + l.pushes * most_looks l.network;
-  grows : l.fn.arcs.looks ≤ l.arcs.looks;
 }

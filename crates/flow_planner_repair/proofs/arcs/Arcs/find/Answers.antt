@@ -17,7 +17,6 @@ loop-from-init c =
       finding = finding_start network used c.args.source c.args.self.now.fresh c.args.self.now.least c.requires.none c.requires.groups;
       fresh = refl;
       looks = omega arith;
-      grows = omega arith;
     }
 
 pub find_among-requires : goal.find_among-requires
@@ -63,7 +62,6 @@ loop-from-preserved c =
                 (subst (λ fresh. AreFound network used from source here.self.least fresh → AreFound network used (from + many) source w.find_among.new.self.least fresh) here.invariant.fresh made.found);
             fresh = made.fresh ∙ here.invariant.fresh;
             looks = omega (arith, made.looks, here.invariant.looks);
-            grows = omega (arith, made.grows, here.invariant.grows);
           })
       | else-has_pins w ↦
           let none : (i : ℕ) → i < many → used source (from + i) ≤ 0 =
@@ -75,7 +73,6 @@ loop-from-preserved c =
             finding = finding_past_all network used source old.fresh old.least here.self.least from many none here.invariant.finding;
             fresh = here.invariant.fresh;
             looks = omega (arith, here.invariant.looks);
-            grows = omega (arith, here.invariant.grows);
           })
     ]
 
@@ -97,5 +94,4 @@ returns c =
       others = done.others;
       fresh = here.invariant.fresh;
       looks = omega (arith, here.invariant.looks);
-      grows = omega (arith, here.invariant.grows);
     }

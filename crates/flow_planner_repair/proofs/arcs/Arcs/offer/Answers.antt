@@ -16,7 +16,6 @@ loop-target-init c = record {
   };
   fresh = refl;
   looks = omega arith;
-  grows = omega arith;
 }
 
 pub loop-target-preserved : goal.loop-target-preserved
@@ -35,7 +34,6 @@ loop-target-preserved c =
           (λ is. made.found (subst (λ fresh. is_fresh (options network) fresh source target ≡ false) (sym here.invariant.fresh) is));
       fresh = made.fresh ∙ here.invariant.fresh;
       looks = omega (arith, made.looks, here.invariant.looks);
-      grows = omega (arith, made.grows, here.invariant.grows);
     }
 
 pub returns : goal.returns
@@ -50,7 +48,6 @@ returns c =
       known = offered.known;
       fresh = here.invariant.fresh;
       looks = omega (arith, here.invariant.looks, c.requires.short);
-      grows = omega (arith, here.invariant.grows, c.requires.short);
       found = λ used some before k within stale.
           offered.found used k some stale (before k within stale) within (subst (λ many. IsListed c.args.targets.now many k) (sym all) (c.requires.listed k within stale));
     }
