@@ -3,7 +3,7 @@
 use dual_cert_plan::Server;
 use lb_types::{Name, NameFault, Place, ServerId, ServerSet};
 use lb_types_pins::PinKind;
-use pin_rows::PlainPin;
+use pin_groups_spread::PlainPin;
 use std::alloc::{AllocError, Global};
 
 /// The most servers of a farm.

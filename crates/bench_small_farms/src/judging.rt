@@ -9,7 +9,7 @@ use dual_cert_plan::{Plan, Server, Sheet};
 use flow_planner::plan;
 use lb_types_pins::Row;
 use pin_groups::group;
-use pin_rows::{PlainPin, numbered_view};
+use pin_groups_spread::{PlainPin, numbered_view};
 use pin_set::Score;
 use std::alloc::{AllocError, Global};
 

@@ -5,7 +5,7 @@ use anyhow::{Result, bail};
 use dual_cert::read_plan;
 use dual_cert_plan::Plan;
 use lb_types::{ServerId, ServerSet};
-use pin_rows::{PlainPin, numbered_view};
+use pin_groups_spread::{PlainPin, numbered_view};
 use pin_set::View;
 use std::alloc::{AllocError, Global};
 

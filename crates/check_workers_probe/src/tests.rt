@@ -1,5 +1,5 @@
 use super::*;
-use check_rule::{CheckRule, RequestLine};
+use check_workers_rule::{CheckRule, RequestLine};
 use http_relay_wire::{Script, ScriptedWire, WireFault};
 use lb_acl::Version;
 use std::alloc::{AllocError, Global};

@@ -1,4 +1,4 @@
-use check_rule::{CheckRule, RequestLine};
+use check_workers_rule::{CheckRule, RequestLine};
 use check_workers_probe::probe;
 use http_relay_wire::{Script, ScriptedWire};
 use lb_acl::Version;

@@ -4,7 +4,7 @@
 use Rattle.std.specs.Prelude.{ℕ, List, [], ◌∷◌, ◌++◌, map, Option, Some, None, Result, Ok, unwrap_or, if◌then◌else◌}
 use Rattle.std.specs.List.{filter_map}
 use Rattle.std.specs.Option.{option_map, option_or, option_to_list}
-use Rattle.check_rule.specs.CheckRequests.{CheckLine}
+use Rattle.check_workers_rule.specs.CheckRequests.{CheckLine}
 use Rattle.lb_config_lines.specs.declared.setting.Balance.TheVariants.{RoundRobin}
 use Rattle.lb_config_lines.specs.declared.setting.Setting.{Setting}
 use Rattle.lb_config_lines.specs.declared.statement.Section.{Section}

@@ -1,4 +1,4 @@
-use check_rule::CheckRequest;
+use check_workers_rule::CheckRequest;
 use lb_acl::{Field, Head, KeyLen, TableType, Version, designated, pin_cost, pin_key};
 use lb_config::{BackendConfig, Config, read_config};
 use lb_config_lines::{Balance, SocketAddress};

@@ -3,7 +3,7 @@
 -- server's own line goes before them.
 use Rattle.std.specs.Prelude.{ℕ, Bool, ◌||◌, List, [], ◌∷◌, ◌++◌, Option, Some, None, unwrap_or, if◌then◌else◌}
 use Rattle.std.specs.Option.{option_or, option_to_list}
-use Rattle.check_rule.specs.CheckRequests.{CheckLine, check_request}
+use Rattle.check_workers_rule.specs.CheckRequests.{CheckLine, check_request}
 use Rattle.lb_config_arguments.specs.declared.address.Endpoint.{Endpoint}
 use Rattle.lb_config_lines.specs.declared.setting.Setting.{Setting}
 use Rattle.lb_config_lines.specs.declared.setting.Setting.TheVariants as Set

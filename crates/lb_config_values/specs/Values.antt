@@ -1,7 +1,7 @@
 -- Single values: HAProxy Configuration Manual 2.8, sections 3 and 4. Of a setting that is given twice the last one counts.
 use Rattle.std.specs.Prelude.{ℕ, Bool, true, false, ◌||◌, List, Option, Some, None}
 use Rattle.std.specs.List.{filter_map, list_any, last_or}
-use Rattle.check_rule.specs.CheckRequests.{CheckLine, check_line}
+use Rattle.check_workers_rule.specs.CheckRequests.{CheckLine, check_line}
 use Rattle.lb_config_lines.specs.declared.http_check.HttpCheck.{HttpCheck}
 use Rattle.lb_config_lines.specs.declared.setting.Balance.{Balance}
 use Rattle.lb_config_lines.specs.declared.setting.Setting.{Setting}

@@ -1,5 +1,5 @@
 use crate::{Defaults, GlobalValues, ProxyValues, ServerConfig, read_servers};
-use check_rule::CheckRequest;
+use check_workers_rule::CheckRequest;
 use lb_config_lines::{Balance, SocketAddress};
 use lb_config_sections::{NumberedSetting, Sections, read_text};
 use server_state::{AdminState, CheckSettings, ServerSettings};

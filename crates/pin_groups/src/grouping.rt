@@ -2,7 +2,7 @@ ghost use Rattle.std.specs.Prelude.{◌≡◌, ◌^◌, ◌≤◌, length, map, 
 ghost use Rattle.dual_cert_plan.specs.Sheets.{IsSheet};
 ghost use Rattle.pin_set.specs.Rows.{AreGroupsOf};
 ghost use Rattle.pin_set.specs.Views.{kind_of};
-ghost use Rattle.pin_groups_sheet.specs.Sheets.{StandsFor};
+ghost use Rattle.cert_check_law.specs.Sheets.{StandsFor};
 ghost use Rattle.pin_groups.specs.Rising.{AreRising};
 
 use crate::listed::listed_servers;
