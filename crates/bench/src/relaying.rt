@@ -8,8 +8,7 @@
 ghost use Rattle.std.specs.Prelude.{◌<◌};
 
 use anyhow::{Context, Result};
-use http_relay_body::send_body;
-use http_relay_copy::copy_back;
+use http_relay_body::{copy_back, send_body};
 use http_relay_forward::{BodyKind, rewrite};
 use http_relay_head::{HEAD_ROOM, read_head};
 use http_relay_wire::{Script, ScriptedWire};

@@ -1,6 +1,5 @@
 use crate::relaying::{client_address, joined, relay};
-use http_relay_body::send_body;
-use http_relay_copy::copy_back;
+use http_relay_body::{copy_back, send_body};
 use http_relay_forward::{continue_text, expects_continue, rewrite};
 use http_relay_head::{HEAD_ROOM, read_head};
 use http_relay_wire::{Script, ScriptedWire, write_all};
