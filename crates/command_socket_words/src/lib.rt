@@ -19,6 +19,3 @@ pub use fault::CommandFault;
 pub use laws::{a_line_says_its_commands, the_first_fault_is_told, words_say_a_command};
 pub use line::read_commands;
 pub use server_state::{AdminState, Setting};
-
-#[cfg(test)]
-mod tests;
