@@ -13,6 +13,3 @@ pub use dual_cert_sheet::{never_a_plan, one_text as one_sheet_text, read_sheet};
 pub use dual_cert_sheet_write::write_sheet;
 pub use dual_cert_text::{ReadError, TextFault, one_text as one_plan_text, read_plan};
 pub use dual_cert_write::{WriteFailed, write_plan};
-
-#[cfg(test)]
-mod tests;

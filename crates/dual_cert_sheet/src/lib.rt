@@ -12,6 +12,3 @@ mod sheet_text;
 pub use dual_cert_plan::{Server, Sheet};
 pub use dual_cert_text::{ReadError, TextFault};
 pub use sheet_text::{a_beginning_is_truncated, a_fault_stays, never_a_plan, one_text, read_sheet};
-
-#[cfg(test)]
-mod tests;

@@ -9,6 +9,3 @@ mod sheet_text;
 
 pub use dual_cert_write::WriteFailed;
 pub use sheet_text::write_sheet;
-
-#[cfg(test)]
-mod tests;

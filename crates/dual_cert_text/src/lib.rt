@@ -20,6 +20,3 @@ pub mod words;
 pub use dual_cert_plan::{Plan, PricedServer, Server, Sheet};
 pub use fault::{ReadError, TextFault};
 pub use plan_text::{a_beginning_is_truncated, a_fault_stays, one_text, read_plan};
-
-#[cfg(test)]
-mod tests;

@@ -15,6 +15,3 @@ mod write_failed;
 
 pub use plan_text::write_plan;
 pub use write_failed::WriteFailed;
-
-#[cfg(test)]
-mod tests;

@@ -10,8 +10,3 @@ mod numbered;
 
 pub use best::spread_best;
 pub use numbered::{PlainPin, numbered_view};
-
-#[cfg(test)]
-mod small_farm;
-#[cfg(test)]
-mod tests;

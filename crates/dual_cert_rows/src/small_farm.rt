@@ -1,9 +1,9 @@
 //! Small farms as plain numbers, with the definitions of permitted, lawful and best computed by their words.
 
-use crate::{PlainPin, numbered_view};
 use dual_cert::read_plan;
 use dual_cert_plan::Plan;
 use lb_types::{Place, ServerId, ServerSet};
+use pin_groups_spread::{PlainPin, numbered_view};
 use pin_set::View;
 use std::alloc::{AllocError, Global};
 use std::collections::BTreeMap;
