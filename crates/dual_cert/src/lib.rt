@@ -4,7 +4,7 @@
 //! first fault; `write_plan` and `write_sheet` write it to a `Counted` writer, or else a write failed and a beginning of
 //! the text went out.
 //!
-//! This crate passes on, for the crates above, what stands in four: `dual_cert_text` and `dual_cert_sheet` read,
+//! This crate re-exports, for the crates above, what stands in four: `dual_cert_text` and `dual_cert_sheet` read,
 //! `dual_cert_write` and `dual_cert_sheet_write` write. Start at `read_plan`.
 #![tactic(auto)]
 

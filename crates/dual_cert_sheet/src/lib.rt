@@ -3,6 +3,7 @@
 //! Promised: `read_sheet` gives a sheet exactly where the text is the sheet's spelling, and else the text's first fault; no
 //! spelling begins another (`one_text`), and none is a plan's (`never_a_plan`). The spelling is in
 //! `specs/SheetSpellings.antt`, the reading with its faults in `specs/SheetTexts.antt`. Start at `read_sheet`.
+//! Private to `dual_cert`.
 #![tactic(auto)]
 
 mod group_line;
