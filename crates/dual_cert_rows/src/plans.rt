@@ -10,25 +10,25 @@ pub const PLANS: [(&str, &str); 24] = [
     ),
     (
         "stickyplan 1\nversion 1\nserver a off\nserver b cap 2 price 0\nserver c cap 2 price 0\n\
-              row 1 a b b,c\nrow 1 a c b,c\nrow 1 b b b,c\nrow 1 c c b,c\nend\n",
+            row 1 a b b,c\nrow 1 a c b,c\nrow 1 b b b,c\nrow 1 c c b,c\nend\n",
         "best pins 4 unplaced 0 moved 2",
     ),
     // A pin that is tied to b takes the place of one that c may have: cost 2, bound 2 + 1 - 1.
     (
         "stickyplan 1\nversion 1\nserver a off\nserver b cap 1 price 1\nserver c cap 1 price 0\n\
-              row 1 a b b\nrow 1 b c b,c\nend\n",
+            row 1 a b b\nrow 1 b c b,c\nend\n",
         "best pins 2 unplaced 0 moved 2",
     ),
     // The same with no price at b: the bound is 1.
     (
         "stickyplan 1\nversion 1\nserver a off\nserver b cap 1 price 0\nserver c cap 1 price 0\n\
-              row 1 a b b\nrow 1 b c b,c\nend\n",
+            row 1 a b b\nrow 1 b c b,c\nend\n",
         "53 NotShown",
     ),
     // Bound 3 - 1.
     (
         "stickyplan 1\nversion 1\nserver a cap 1 price 1\nserver b cap 10 price 0\n\
-              row 1 a a a,b\nrow 2 a b a,b\nend\n",
+            row 1 a a a,b\nrow 2 a b a,b\nend\n",
         "best pins 3 unplaced 0 moved 2",
     ),
     // A pin that loses its server is moved: cost 4 + 1, bound 4 + 4 - 3.
@@ -61,25 +61,25 @@ pub const PLANS: [(&str, &str); 24] = [
     // Cost 2, bound 1 + 1 + 1 - 1.
     (
         "stickyplan 2\nversion 1\nserver a cap 1 price 1\nserver b cap 10 price 0\n\
-              row 2 a b a,b 1\nrow 1 a a a,b 5\nend\n",
+            row 2 a b a,b 1\nrow 1 a a a,b 5\nend\n",
         "best pins 3 unplaced 0 moved 2",
     ),
     // Bound 1 + 1 + 5 - 6.
     (
         "stickyplan 2\nversion 1\nserver a cap 1 price 6\nserver b cap 10 price 0\n\
-              row 2 a b a,b 1\nrow 1 a a a,b 5\nend\n",
+            row 2 a b a,b 1\nrow 1 a a a,b 5\nend\n",
         "53 NotShown",
     ),
     // Bound 2 + 2 + 2 - 4.
     (
         "stickyplan 2\nversion 1\nserver a cap 2 price 2\nserver b cap 10 price 0\n\
-              row 1 a b a,b 2\nrow 2 a a a,b 5\nend\n",
+            row 1 a b a,b 2\nrow 2 a a a,b 5\nend\n",
         "best pins 3 unplaced 0 moved 1 cost 2",
     ),
     // Cost 1002 + 1001, bound 1003 + 2002 - 1002.
     (
         "stickyplan 2\nversion 1\nserver a off\nserver b cap 1 price 1002\n\
-              row 1 a b b 1\nrow 1 a - b 1000\nend\n",
+            row 1 a b b 1\nrow 1 a - b 1000\nend\n",
         "best pins 2 unplaced 1 moved 2 cost 1001",
     ),
     (
@@ -200,7 +200,7 @@ pub const OF_MANY_SERVERS: [(u32, &str, &str, &str); 5] = [
         63,
         "cap 1 price 0",
         "server s64 cap 1 price 3\nserver s65 cap 1 price 3\n\
-        row 1 - s64 s64\nrow 1 - s65 s65\nrow 1 - - s64,s65\nend\n",
+            row 1 - s64 s64\nrow 1 - s65 s65\nrow 1 - - s64,s65\nend\n",
         "best pins 3 unplaced 1 moved 2",
     ),
     (
@@ -397,9 +397,10 @@ pub const NO_PLANS: [(&str, &str); 65] = [
         "stickyplan 2\nversion 1\nserver a cap 5 price 0\nrow 1 a a a 2\nrow 1 a a a 1\nend\n",
         "42 NotCanonical",
     ),
+    // A few more of each kind.
     (
         "stickyplan 1\nversion 1\nserver a off\nserver b cap 1 price 1\nserver c cap 1 price 0\n\
-              row 1 a b b\nrow 1 b c b,c\n",
+            row 1 a b b\nrow 1 b c b,c\n",
         "43 Truncated",
     ),
     ("stickyplan 1\nversion 0\nend", "43 Truncated"),
@@ -411,7 +412,7 @@ pub const NO_PLANS: [(&str, &str); 65] = [
     ),
     (
         "stickyplan 1\nversion 1\nserver a cap 1 price 0\nserver b cap 1 price 0\n\
-              row 16777216 a a a\nrow 1 b b b\nend\n",
+            row 16777216 a a a\nrow 1 b b b\nend\n",
         "41 TooLarge",
     ),
     (

@@ -7,7 +7,7 @@ pub const SHEETS: [(&str, &str); 27] = [
     // The pin of b makes way for the one that may go nowhere else.
     (
         "stickysheet 1\nversion 1\nserver a off\nserver b cap 1\nserver c cap 1\n\
-                group 1 a b\ngroup 1 b b,c\nend\n",
+            group 1 a b\ngroup 1 b b,c\nend\n",
         "best pins 2 unplaced 0 moved 2",
     ),
     (
@@ -16,21 +16,21 @@ pub const SHEETS: [(&str, &str); 27] = [
     ),
     (
         "stickysheet 1\nversion 1\nserver a off\nserver b cap 600000\nserver c cap 600000\n\
-                group 1000000 a b,c\nend\n",
+            group 1000000 a b,c\nend\n",
         "best pins 1000000 unplaced 0 moved 1000000",
     ),
     // A drained server whose pins are tied in part: 130 of its own and 10 that make way.
     (
         "stickysheet 1\nversion 12\nserver web1 off\nserver web2 cap 100\nserver web3 cap 120\n\
-                server web4 cap 80\ngroup 40 web1 web2\ngroup 90 web1 web2,web3,web4\ngroup 20 web2 web2\n\
-                group 50 web2 web2,web3,web4\ngroup 60 web3 web2,web3,web4\ngroup 25 web4 web4\n\
-                group 15 web4 web2,web3,web4\nend\n",
+            server web4 cap 80\ngroup 40 web1 web2\ngroup 90 web1 web2,web3,web4\ngroup 20 web2 web2\n\
+            group 50 web2 web2,web3,web4\ngroup 60 web3 web2,web3,web4\ngroup 25 web4 web4\n\
+            group 15 web4 web2,web3,web4\nend\n",
         "best pins 300 unplaced 0 moved 140",
     ),
     // The cheaper pin goes.
     (
         "stickysheet 2\nversion 1\nserver a cap 1\nserver b cap 5\ngroup 1 a a,b 1\ngroup 1 a a,b 20\n\
-                group 1 b a,b 1\nend\n",
+            group 1 b a,b 1\nend\n",
         "best pins 3 unplaced 0 moved 1",
     ),
     (
@@ -92,7 +92,7 @@ pub const SHEETS: [(&str, &str); 27] = [
     // Groups in their order: by place, then by set. Of those that may go nowhere one loses its place.
     (
         "stickysheet 1\nversion 1\nserver a cap 5\nserver b cap 5\nserver c off\n\
-group 1 - -\ngroup 1 - a,b\ngroup 1 a -\ngroup 1 a a\ngroup 1 a b\ngroup 1 a a,b\ngroup 1 c b\nend\n",
+            group 1 - -\ngroup 1 - a,b\ngroup 1 a -\ngroup 1 a a\ngroup 1 a b\ngroup 1 a a,b\ngroup 1 c b\nend\n",
         "best pins 7 unplaced 2 moved 4",
     ),
     (

@@ -64,7 +64,7 @@ fn expect_in_sections(rt: &impl Abort, alloc: Global, cases: &[Case]) -> Result<
 }
 
 /// Keywords of `global`.
-const OF_THE_PROCESS: [Case; 4] = [
+const OF_THE_PROCESS: [Case; 8] = [
     (
         "stats socket ipv4@127.0.0.1:9999",
         b"+----",
@@ -89,10 +89,34 @@ const OF_THE_PROCESS: [Case; 4] = [
         "tune.journal",
         "line 2: 23 Missing\n",
     ),
+    (
+        "stats socket /run/lb.sock",
+        b"+----",
+        "stats socket ::1:80",
+        "line 2: 29 LeftOut ::1:80\n",
+    ),
+    (
+        "tune.relays 64",
+        b"+----",
+        "tune.relays 65",
+        "line 2: 24 BadNumber\n",
+    ),
+    (
+        "tune.tries 1000",
+        b"+----",
+        "tune.tries 0",
+        "line 2: 24 BadNumber\n",
+    ),
+    (
+        "tune.journal 1000000",
+        b"+----",
+        "tune.journal 1000001",
+        "line 2: 24 BadNumber\n",
+    ),
 ];
 
 /// Times that are waited.
-const TIMEOUTS: [Case; 5] = [
+const TIMEOUTS: [Case; 10] = [
     (
         "timeout client 30s",
         b"-++-+",
@@ -123,10 +147,40 @@ const TIMEOUTS: [Case; 5] = [
         "timeout check 5S",
         "line 2: 24 BadNumber\n",
     ),
+    (
+        "timeout client 5s",
+        b"-++-+",
+        "timeout client 5x",
+        "line 2: 24 BadNumber\n",
+    ),
+    (
+        "timeout connect 5s",
+        b"-+-++",
+        "timeout connect",
+        "line 2: 23 Missing\n",
+    ),
+    (
+        "timeout server 2147483647",
+        b"-+-++",
+        "timeout server 2147483648",
+        "line 2: 24 BadNumber\n",
+    ),
+    (
+        "timeout queue 0",
+        b"-+-++",
+        "timeout queue 1 2",
+        "line 2: 22 UnknownWord\n",
+    ),
+    (
+        "timeout check 1m",
+        b"-+-++",
+        "timeout check m",
+        "line 2: 24 BadNumber\n",
+    ),
 ];
 
 /// Options, modes and balances.
-const OPTIONS: [Case; 6] = [
+const OPTIONS: [Case; 11] = [
     (
         "mode http",
         b"-++++",
@@ -163,10 +217,40 @@ const OPTIONS: [Case; 6] = [
         "balance random",
         "line 2: 29 LeftOut random\n",
     ),
+    (
+        "option httpchk GET / HTTP/1.1",
+        b"-+-++",
+        "option httpchk GET / HTTP/2",
+        "line 2: 29 LeftOut HTTP/2\n",
+    ),
+    (
+        "option allbackups",
+        b"-+-++",
+        "option allbackups x",
+        "line 2: 22 UnknownWord\n",
+    ),
+    (
+        "option evacuate",
+        b"-+-++",
+        "option evacuate x",
+        "line 2: 22 UnknownWord\n",
+    ),
+    (
+        "option forwardfor",
+        b"-++++",
+        "option forwardfor except",
+        "line 2: 29 LeftOut except\n",
+    ),
+    (
+        "option httpchk",
+        b"-+-++",
+        "option tcp-check",
+        "line 2: 29 LeftOut tcp-check\n",
+    ),
 ];
 
 /// What requests come by and where they go.
-const OF_REQUESTS: [Case; 6] = [
+const OF_REQUESTS: [Case; 10] = [
     (
         "bind *:80",
         b"--+-+",
@@ -203,10 +287,34 @@ const OF_REQUESTS: [Case; 6] = [
         "pin-cost 20 if known unknown",
         "line 2: 27 NoSuchName\n",
     ),
+    (
+        "bind *:80",
+        b"--+-+",
+        "bind *:80 ssl",
+        "line 2: 29 LeftOut ssl\n",
+    ),
+    (
+        "acl a path /",
+        b"--+++",
+        "acl a url /",
+        "line 2: 29 LeftOut url\n",
+    ),
+    (
+        "use_backend b if known",
+        b"--+-+",
+        "use_backend b when known",
+        "line 2: 22 UnknownWord\n",
+    ),
+    (
+        "default_backend b",
+        b"-++-+",
+        "default_backend a/b",
+        "line 2: 25 BadName\n",
+    ),
 ];
 
 /// Servers, and what ties clients to them.
-const OF_SERVERS: [Case; 6] = [
+const OF_SERVERS: [Case; 14] = [
     (
         "stick-table type string len 64 size 1m expire 30m nopurge",
         b"---++",
@@ -243,6 +351,54 @@ const OF_SERVERS: [Case; 6] = [
         "server s localhost:65535",
         // The second one of a name is refused.
         "line 4: 26 Duplicate\n",
+    ),
+    (
+        "balance leastconn",
+        b"-+-++",
+        "balance uri",
+        "line 2: 29 LeftOut uri\n",
+    ),
+    (
+        "balance first",
+        b"-+-++",
+        "balance source",
+        "line 2: 29 LeftOut source\n",
+    ),
+    (
+        "stick-table type ip size 1m",
+        b"---++",
+        "stick-table type ip size 17m",
+        "line 2: 24 BadNumber\n",
+    ),
+    (
+        "stick on src",
+        b"---++",
+        "stick match src",
+        "line 2: 29 LeftOut match\n",
+    ),
+    (
+        "use-server s if { path / }",
+        b"---++",
+        "use-server s",
+        "line 2: 23 Missing\n",
+    ),
+    (
+        "default-server check",
+        b"-+-++",
+        "default-server backup",
+        "line 2: 29 LeftOut backup\n",
+    ),
+    (
+        "server a 127.0.0.1:80",
+        b"---++",
+        "server a 127.0.0.1",
+        "line 2: 23 Missing\n",
+    ),
+    (
+        "pin-cost 1000 unless known",
+        b"---++",
+        "pin-cost 1001 unless known",
+        "line 2: 24 BadNumber\n",
     ),
 ];
 
