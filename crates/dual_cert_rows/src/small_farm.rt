@@ -52,7 +52,7 @@ fn set_of(bits: u8) -> ServerSet {
     set
 }
 
-pub(crate) fn place_of(spot: Spot) -> Place {
+fn place_of(spot: Spot) -> Place {
     if spot == 0 || spot > 3 {
         None
     } else {
