@@ -28,11 +28,7 @@ pub fn group(alloc: Global, view: &View, version: u64) -> Result<Sheet, AllocErr
     Ok(Sheet::new(version, servers, groups))
 }
 
-pub(crate) fn groups_of(
-    alloc: Global,
-    usable: ServerSet,
-    pins: &[Pin],
-) -> Result<Vec<Group>, AllocError>
+fn groups_of(alloc: Global, usable: ServerSet, pins: &[Pin]) -> Result<Vec<Group>, AllocError>
     requires { length pins.now ≤ 16777216 }
     ensures rising { IfOk result (λ groups. AreRising groups.items) }
     ensures counts { IfOk result (λ groups. AreGroupsOf groups.items (map (kind_of usable) pins.now)) }

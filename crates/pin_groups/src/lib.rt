@@ -14,6 +14,3 @@ mod spreading;
 pub use counted::{PinCount, one_sheet_for_a_view, sheet_of};
 pub use grouping::group;
 pub use spreading::spread;
-
-#[cfg(test)]
-mod tests;

@@ -4,11 +4,11 @@
 //! rise), the order of the servers (the capacities rise, and the servers that aren't usable come last), two wishes of a pin
 //! with the same permitted servers, and capacities above the number of pins.
 
-use crate::small_farm::{Farm, Judged, SmallPin, Spot, place_of};
-use crate::spread_best;
+use crate::small_farm::{Farm, Judged, SmallPin, Spot};
 use cert_check::{CheckFault, check};
 use dual_cert_plan::Sheet;
 use pin_groups::group;
+use pin_groups_spread::spread_best;
 use pin_set::{Score, View, score};
 use std::alloc::{AllocError, Global};
 use std::process::Abort;

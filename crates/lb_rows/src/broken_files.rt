@@ -1,6 +1,6 @@
-//! Readers and writers that fail. Whole texts with their answers are in the crate `lb_rows`.
+//! Readers and writers that fail, and a file that isn't there.
 
-use crate::{JobError, check, perform, plan, verify};
+use lb_cli::{JobError, check, perform, plan, verify};
 use lb_cli_words::Job;
 use std::io;
 use std::io::{ErrorKind, Read, Write};
@@ -29,49 +29,32 @@ impl Write for Broken {
 }
 
 #[test]
-fn a_file_that_breaks_can_not_be_read(rt: HostRuntime) {
+fn a_file_that_breaks_can_not_be_read_and_an_answer_may_not_be_written(rt: HostRuntime) {
     let cases = [
         (ErrorKind::IsADirectory, JobError::CannotRead),
         (ErrorKind::OutOfMemory, JobError::OutOfMemory),
     ];
     for (kind, error) in cases {
         let mut out = Vec::new(rt.alloc());
-        assert_eq!(rt;
+        let told = [
             verify(rt.alloc(), &mut Broken { kind }, &mut out).err(),
-            Some(error)
-        );
-        assert_eq!(rt;
             plan(rt.alloc(), &mut Broken { kind }, &mut out).err(),
-            Some(error)
-        );
-        assert_eq!(rt;
             check(rt.alloc(), &mut Broken { kind }, &mut out).err(),
-            Some(error)
-        );
+        ];
+        assert_eq!(rt; told, [Some(error), Some(error), Some(error)]);
         assert!(rt; out.is_empty());
     }
-}
-
-#[test]
-fn an_answer_that_can_not_be_written_is_told(rt: HostRuntime) {
-    let mut text = b"stickyplan 1\nversion 0\nend\n".as_slice();
     let mut full = Broken {
         kind: ErrorKind::StorageFull,
     };
-    assert_eq!(rt;
-        verify(rt.alloc(), &mut text, &mut full).err(),
-        Some(JobError::CannotWrite)
-    );
+    let mut text = b"stickyplan 1\nversion 0\nend\n".as_slice();
+    let verified = verify(rt.alloc(), &mut text, &mut full).err();
     let mut text = b"stickysheet 1\nversion 0\nend\n".as_slice();
-    assert_eq!(rt;
-        plan(rt.alloc(), &mut text, &mut full).err(),
-        Some(JobError::CannotWrite)
-    );
+    let planned = plan(rt.alloc(), &mut text, &mut full).err();
     let mut text = b"backend web\n".as_slice();
-    assert_eq!(rt;
-        check(rt.alloc(), &mut text, &mut full).err(),
-        Some(JobError::CannotWrite)
-    );
+    let checked = check(rt.alloc(), &mut text, &mut full).err();
+    let error = Some(JobError::CannotWrite);
+    assert_eq!(rt; [verified, planned, checked], [error, error, error]);
 }
 
 #[test]

@@ -1,9 +1,9 @@
 //! Small farms as plain numbers, with the definitions of permitted, lawful and best computed by their words.
 
-use crate::{PlainPin, numbered_view};
 use dual_cert::read_plan;
 use dual_cert_plan::Plan;
 use lb_types::{Place, ServerId, ServerSet};
+use pin_groups_spread::{PlainPin, numbered_view};
 use pin_set::View;
 use std::alloc::{AllocError, Global};
 use std::collections::BTreeMap;
@@ -52,7 +52,7 @@ fn set_of(bits: u8) -> ServerSet {
     set
 }
 
-pub(crate) fn place_of(spot: Spot) -> Place {
+fn place_of(spot: Spot) -> Place {
     if spot == 0 || spot > 3 {
         None
     } else {

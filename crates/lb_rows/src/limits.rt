@@ -69,11 +69,7 @@ fn as_many_as_there_may_be_and_one_more(rt: HostRuntime) -> Result<(), Fail> {
         let report = report_of(&rt, rt.alloc(), text.as_bytes())?;
         assert_eq!(rt; report.as_str(), fault, "one more than {limit} of {before}");
     }
-    Ok(())
-}
-
-#[test]
-fn rules_of_all_kinds_count_together(rt: HostRuntime) -> Result<(), Fail> {
+    // Rules of all kinds count together.
     let mut text = String::from_str(rt.alloc(), "listen web\nserver s localhost:80\n")?;
     for (count, before) in [
         (100, "use_backend web if { path /"),
@@ -98,23 +94,6 @@ fn repeated(alloc: Global, part: &str, count: usize, end: &str) -> Result<String
     }
     text.push_str(end)?;
     Ok(text)
-}
-
-#[test]
-fn words_of_a_line_and_bytes_of_a_name(rt: HostRuntime) -> Result<(), Fail> {
-    let cases = [
-        ("backend web\nacl a path", " /", 61, VALID),
-        ("backend web\nacl a path", " /", 62, "line 2: 28 TooMany\n"),
-        ("backend ", "b", 64, VALID),
-        ("backend ", "b", 65, "line 1: 25 BadName\n"),
-    ];
-    for (begin, part, count, wanted) in cases {
-        let mut text = String::from_str(rt.alloc(), begin)?;
-        text.push_str(repeated(rt.alloc(), part, count, "\n")?.as_str())?;
-        let report = report_of(&rt, rt.alloc(), text.as_bytes())?;
-        assert_eq!(rt; report.as_str(), wanted, "{begin} with {count}");
-    }
-    Ok(())
 }
 
 #[test]
@@ -150,8 +129,20 @@ fn a_text_of_1048576_bytes_is_judged_and_no_longer_one(rt: HostRuntime) -> Resul
 }
 
 #[test]
-fn the_last_line_of_a_long_text_is_told(rt: HostRuntime) -> Result<(), Fail> {
+fn words_names_and_texts_may_be_so_long(rt: HostRuntime) -> Result<(), Fail> {
     let cases = [
+        // As many words as a line may have and one more, and as many bytes as a name.
+        ("backend web\nacl a path", " /", 61, "\n", VALID),
+        (
+            "backend web\nacl a path",
+            " /",
+            62,
+            "\n",
+            "line 2: 28 TooMany\n",
+        ),
+        ("backend ", "b", 64, "\n", VALID),
+        ("backend ", "b", 65, "\n", "line 1: 25 BadName\n"),
+        // The last line of a long text is told.
         (
             "frontend f\n",
             "default_backend b\n",
@@ -185,7 +176,7 @@ fn the_last_line_of_a_long_text_is_told(rt: HostRuntime) -> Result<(), Fail> {
         let mut text = String::from_str(rt.alloc(), begin)?;
         text.push_str(repeated(rt.alloc(), part, count, end)?.as_str())?;
         let report = report_of(&rt, rt.alloc(), text.as_bytes())?;
-        assert_eq!(rt; report.as_str(), wanted, "{part}");
+        assert_eq!(rt; report.as_str(), wanted, "{begin} with {count} of {part}");
     }
     Ok(())
 }
