@@ -7,7 +7,7 @@ mod texts;
 
 use anyhow::{Result, bail};
 use lb_config::read_config;
-use lb_config_references::read_checked;
+use lb_config_sections::read_checked;
 use std::alloc::Global;
 use std::env;
 use std::rt::Runtime;
