@@ -2,7 +2,7 @@
 //!
 //! Promised: `read_line` gives exactly what `specs/Lines` defines, over the tables of `lb_config_keywords` of the words of each
 //! section. Names of backends, servers and ACLs are not looked up, and lines are not compared. Start at `read_line`. Private to
-//! `lb_config`. Worked lines are in `lb_config_rows`.
+//! `lb_config`. Worked lines are in `lb_config_words_rows`.
 #![tactic(auto)]
 
 mod common_line;
