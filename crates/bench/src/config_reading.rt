@@ -9,7 +9,7 @@ mod texts;
 use crate::config_reading::texts::{KINDS, Kind};
 use anyhow::{Context, Result, bail};
 use lb_config::read_config;
-use lb_config_references::read_checked;
+use lb_config_sections::read_checked;
 use std::alloc::Global;
 use std::rt::Runtime;
 use std::time::Instant;
