@@ -1,14 +1,11 @@
 -- How the parts of a chunked body follow one another, and why bytes never become one.
-use Rattle.std.proofs.Common.{◌≡◌, ◌≢◌, ◌⊎◌, inl, inr, ℕ, ◌+◌, ◌<◌, ◌≤◌, Bool, true, false, List, [], ◌∷◌, ◌++◌, length, length-append, take, drop, get_or, refl, ap, sym, ◌∙◌, subst, arith, append_assoc, append-nil}
-use Rattle.std.proofs.lemmas.Bool.{cases_lt}
-use Rattle.std.proofs.lemmas.List.{take-append-le, take-append-drop, append_cancel_left}
-use Rattle.std.proofs.Math.Seq.{take-append_seam, drop-append_seam}
+use Rattle.std.proofs.Common.{◌≡◌, ◌≢◌, ℕ, ◌<◌, true, false, List, [], ◌∷◌, ◌++◌, length, length-append, get_or, refl, ap, sym, ◌∙◌, subst, arith, append_assoc}
+use Rattle.std.proofs.lemmas.List.{append_cancel_left}
 use Rattle.std.specs.List.{flat_map}
 use Rattle.httparse.specs.Ascii.{crlf_bytes}
-use Rattle.httparse.specs.Grammar.{ChunkLine, IsChunkLine, print_chunk_line, chunk_size, ReadsChunkLine, HasNoChunkLine, NeverHasChunkLine, Field, LineEnd, crlf, lf, print_end, print_extension, print_field, print_section, ReadsSection, HasNoSection}
-use Rattle.httparse.specs.Spans.{IsChunkLineAt, SectionOverflows}
+use Rattle.httparse.specs.Grammar.{ChunkLine, IsChunkLine, print_chunk_line, chunk_size, Field, LineEnd, print_section}
 use Rattle.httparse.proofs.ChunkLemmas.{chunk_line_unique}
-use Rattle.http_relay_body.specs.Chunks.{IsSizeLine, IsTrailer, Chunk, IsChunk, print_chunk, ChunkedBody, IsChunkedBody, print_chunked, IsChunked}
+use Rattle.http_relay_body.specs.Chunks.{Chunk, IsChunk, print_chunk, IsChunkedBody, print_chunked, IsChunked}
 use Rattle.http_relay_body.specs.Moves.{Begins, NeverBegins, IsLong}
 use Rattle.http_relay_body.proofs.Lines.{split_same}
 use Rattle.http_relay_body.specs.Parts.{IsSizeText, IsTrailerText, IsLineEnd, IsDataText, IsChunkText}

@@ -69,44 +69,29 @@ const BODIES: [(BodyKind, &[u8], usize, u64); 4] = [
 
 // Of a chunked body a line goes out when it is whole.
 #[test]
-fn each_read_of_a_body_fails_in_turn(rt: HostRuntime) {
+fn each_read_and_each_write_of_a_body_fails_in_turn(rt: HostRuntime) {
     for fault in [WireFault::Timeout, WireFault::Broken] {
         for (kind, body, piece, count) in BODIES {
             for at in 0..count {
-                let script = Script {
+                let reading = Script {
                     pieces: &[piece],
                     failing_read: Some((at, fault)),
                     ..Script::SMOOTH
                 };
-                let (answer, sent) = send_through(rt.alloc(), kind, body, script, Script::SMOOTH);
-                let is_sent = match sent {
-                    Some(sent) => sent == at || (kind == CHUNKS && sent < at),
-                    None => false,
-                };
-                assert!(rt;
-                    answer == Err(BodyFault::Client(fault)) && is_sent,
-                    "{kind:?}, read {at}"
-                );
-            }
-        }
-    }
-}
-
-#[test]
-fn each_write_of_a_body_fails_in_turn(rt: HostRuntime) {
-    for fault in [WireFault::Timeout, WireFault::Broken] {
-        for (kind, body, piece, count) in BODIES {
-            for at in 0..count {
-                let script = Script {
+                let writing = Script {
                     most_written: piece,
                     failing_write: Some((at, fault)),
                     ..Script::SMOOTH
                 };
-                let (answer, sent) = send_through(rt.alloc(), kind, body, Script::SMOOTH, script);
-                assert!(rt;
-                    answer == Err(BodyFault::Server(fault)) && sent == Some(at),
-                    "{kind:?}, write {at}"
-                );
+                let (answer, sent) = send_through(rt.alloc(), kind, body, reading, Script::SMOOTH);
+                let is_sent = match sent {
+                    Some(sent) => sent == at || (kind == CHUNKS && sent < at),
+                    None => false,
+                };
+                let read_fails = answer == Err(BodyFault::Client(fault)) && is_sent;
+                let (answer, sent) = send_through(rt.alloc(), kind, body, Script::SMOOTH, writing);
+                let write_fails = answer == Err(BodyFault::Server(fault)) && sent == Some(at);
+                assert!(rt; read_fails && write_fails, "{kind:?}, at {at}");
             }
         }
     }

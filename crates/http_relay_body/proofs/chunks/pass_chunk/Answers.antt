@@ -1,4 +1,4 @@
-use Rattle.std.proofs.Common.{arith, ◌≡◌, ◌<◌, ℕ, [], sym, subst, true, false}
+use Rattle.std.proofs.Common.{arith, ◌<◌, [], sym, subst, true, false}
 use Rattle.http_relay_body.proofs.Moves.{take_nothing, append_nothing, fault_handed, part_later}
 use Rattle.http_relay_body.specs.Parts.{IsSizeText, IsTrailerText, IsDataText, IsChunkText}
 use Rattle.http_relay_body.proofs.Parts.{first_size, skip_last, skip_size, join_last, join_chunk}

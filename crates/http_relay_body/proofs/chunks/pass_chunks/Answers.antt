@@ -1,4 +1,4 @@
-use Rattle.std.proofs.Common.{arith, refl, ◌≡◌, ◌∙◌, ◌++◌, ℕ, [], sym, true, false}
+use Rattle.std.proofs.Common.{arith, refl, ◌∙◌, ◌++◌, [], sym, true}
 use Rattle.http_relay_body.proofs.Moves.{take_nothing, take_twice, append_nothing, appends_both, fault_handed, part_later}
 use Rattle.http_relay_body.specs.Chunks.{IsChunked}
 use Rattle.http_relay_body.specs.Parts.{IsChunkText}

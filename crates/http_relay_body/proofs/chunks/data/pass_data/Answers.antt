@@ -1,4 +1,4 @@
-use Rattle.std.proofs.Common.{arith, refl, sym, []}
+use Rattle.std.proofs.Common.{sym, []}
 use Rattle.http_relay_body.specs.Moves.{IsLong}
 use Rattle.http_relay_body.proofs.Moves.{take_nothing, append_nothing, fault_handed}
 use Rattle.http_relay_body.specs.Parts.{IsLineEnd, IsDataText}

@@ -1,4 +1,4 @@
-use Rattle.std.proofs.Common.{arith, refl, sym, ap, ◌∙◌, [], ◌∷◌, ◌≡◌, List, ℕ}
+use Rattle.std.proofs.Common.{arith, refl, sym, ap, ◌∙◌, [], ◌∷◌, ◌≡◌}
 use Rattle.http_relay_body.proofs.Moves.{take_nothing, byte_taken, part_refused}
 use Rattle.http_relay_body.specs.Parts.{IsLineEnd}
 use Rattle.http_relay_body.proofs.Handed.{byte_handed, part_answered, room_taken}

@@ -1,4 +1,4 @@
-use Rattle.std.proofs.Common.{◌≡◌, ℕ, ◌+◌, ◌-◌, ◌≤◌, length, take}
+use Rattle.std.proofs.Common.{◌≡◌, ◌+◌, ◌-◌, ◌≤◌, length, take}
 use Rattle.httparse.specs.Grammar.{HasNoChunkLine}
 use Rattle.http_relay_body.specs.Moves.{Taken}
 use Rattle.http_relay_body.proofs.chunks.size_line.pass_size_line.Given as goal

@@ -1,4 +1,4 @@
-use Rattle.std.proofs.Common.{◌≡◌, ℕ, ◌+◌, ◌-◌, ◌≤◌, length, take}
+use Rattle.std.proofs.Common.{◌≡◌, ◌-◌, ◌≤◌, length, take}
 use Rattle.httparse.specs.Grammar.{HasNoSection}
 use Rattle.http_relay_body.specs.Moves.{Taken}
 use Rattle.http_relay_body.proofs.chunks.trailer.pass_fields.Given as goal
