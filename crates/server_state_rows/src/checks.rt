@@ -13,7 +13,8 @@ const LOCAL: Ipv4Addr = Ipv4Addr::LOCALHOST;
 fn each_server_is_sent_its_own_request(rt: HostRuntime) -> Result<(), Fail> {
     let old = RequestLine::new(rt.alloc(), b"OPTIONS", b"/", Version::Http10)?;
     let new = RequestLine::new(rt.alloc(), b"GET", b"/h", Version::Http11)?;
-    let cases: [(&RequestLine, u16, &[u8], &[u8]); 3] = [
+    let shared = new.share()?;
+    let cases: [(&RequestLine, u16, &[u8], &[u8]); 4] = [
         (&old, 80, b"OPTIONS / HTTP/1.0\r\n", b"\r\n"),
         (
             &new,
@@ -22,19 +23,23 @@ fn each_server_is_sent_its_own_request(rt: HostRuntime) -> Result<(), Fail> {
             b"Host: 127.0.0.1:8001\r\n\r\n",
         ),
         (
-            &new,
+            &shared,
+            8001,
+            b"GET /h HTTP/1.1\r\n",
+            b"Host: 127.0.0.1:8001\r\n\r\n",
+        ),
+        (
+            &shared,
             80,
             b"GET /h HTTP/1.1\r\n",
             b"Host: 127.0.0.1:80\r\n\r\n",
         ),
     ];
-    for (shared, port, line, fields) in cases {
-        let wanted = Some(CheckRequest { line, fields });
-        let direct = CheckRule::http(rt.alloc(), shared, LOCAL, port)?;
-        let again = CheckRule::http(rt.alloc(), &shared.share()?, LOCAL, port)?;
+    for (request, port, line, fields) in cases {
+        let rule = CheckRule::http(rt.alloc(), request, LOCAL, port)?;
         assert!(rt;
-            direct.request() == wanted && again.request() == wanted,
-            "{fields:?}"
+            rule.request() == Some(CheckRequest { line, fields }),
+            "{port}"
         );
     }
     Ok(())
