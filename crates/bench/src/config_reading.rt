@@ -1,13 +1,13 @@
 //! How long `read_config` takes for six kinds of texts that cost much for their bytes, and how long `read_checked`, which it
 //! begins with. There may be texts that cost more; none that we know of.
 //!
-//! The one word is the size of a text in bytes (the largest configuration has 1048576). What was read is counted and printed;
-//! the times go to standard error.
+//! The one word is the size of a text in bytes (16384 without a word; the largest configuration has 1048576). What was read is
+//! counted and printed; the times go to standard error.
 
 mod texts;
 
 use crate::config_reading::texts::{KINDS, Kind};
-use anyhow::{Context, Result, bail};
+use anyhow::{Result, bail};
 use lb_config::read_config;
 use lb_config_sections::read_checked;
 use std::alloc::Global;
@@ -15,7 +15,10 @@ use std::rt::Runtime;
 use std::time::Instant;
 
 pub(crate) fn run(rt: &impl Runtime, alloc: Global, words: &[&str]) -> Result<()> {
-    let size = words.first().context("how many bytes?")?.parse()?;
+    let size = match words.first() {
+        Some(word) => word.parse()?,
+        None => 16384,
+    };
     for kind in KINDS {
         measure(rt, alloc, kind, size)?;
     }
