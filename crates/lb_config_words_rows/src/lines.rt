@@ -145,7 +145,7 @@ fn lines_that_say_the_same_in_every_section(rt: HostRuntime) -> Result<(), Fail>
 
 #[test]
 fn keywords_with_their_arguments_and_first_faults_of_lines(rt: HostRuntime) -> Result<(), Fail> {
-    // In which sections a keyword stands is told in `lb_rows_check`.
+    // In which sections a keyword stands is told in `lb_rows`.
     let rows = [
         (Section::Global, "stats socket /run/lb.sock", "set"),
         (Section::Global, "stats socket ::1:80", "29 ::1:80"),
