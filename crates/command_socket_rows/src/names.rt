@@ -52,7 +52,7 @@ fn commands_have_the_places_of_their_names(rt: HostRuntime) -> Result<(), Fail> 
         server: ServerId::new(1),
         setting: Setting::Admin(AdminState::Drain),
     };
-    let in_shop: [(&[u8], Result<Resolved, CommandFault>); 12] = [
+    let in_shop: [(&[u8], Result<Resolved, CommandFault>); 13] = [
         (b"set weight web/b 257", Ok(Resolved::Change(0, weight))),
         (
             b"set server web/b state drain",
@@ -66,16 +66,16 @@ fn commands_have_the_places_of_their_names(rt: HostRuntime) -> Result<(), Fail> 
         (b"set weight web/x 1", Err(NoSuchServer)),
         (b"set weight shop/a 1", Err(NoSuchServer)),
         (b"set weight other/a 1", Err(NoBackend)),
+        (b"set weight other/x 1", Err(NoBackend)),
         (b"plan backend other", Err(NoBackend)),
         (b"show table Web", Err(NoBackend)),
     ];
-    let reversed: [(&[u8], Result<Resolved, CommandFault>); 3] = [
+    let reversed: [(&[u8], Result<Resolved, CommandFault>); 2] = [
         (
             b"set server web/a state drain",
             Ok(Resolved::Change(1, drain)),
         ),
         (b"set server shop/a state drain", Err(NoSuchServer)),
-        (b"set weight other/x 1", Err(NoBackend)),
     ];
     for (text, cases) in [(SHOP, in_shop.as_slice()), (REVERSED, &reversed)] {
         let config = config(&rt, rt.alloc(), text);
