@@ -28,18 +28,27 @@ fn expect_lines(rt: &impl Abort, alloc: Global, rows: &[(&str, &str)]) -> Result
     Ok(())
 }
 
+/// Each row is a number of servers, the usage of each, the lines behind them, and what `verify` says.
+fn expect_lines_of_many(
+    rt: &impl Abort,
+    alloc: Global,
+    rows: &[(u32, &str, &str, &str)],
+) -> Result<(), Fail> {
+    for (count, usage, lines, line) in rows {
+        let text = plans::plan_of_servers(alloc, *count, usage, lines)?;
+        expect_line(rt, alloc, text.as_bytes(), line)?;
+    }
+    Ok(())
+}
+
 #[test]
 fn verify_says_what_is_due_of_each_text(rt: HostRuntime) -> Result<(), Fail> {
     expect_lines(&rt, rt.alloc(), &plans::PLANS)?;
     expect_lines(&rt, rt.alloc(), &plans::INSTALLED)?;
     expect_lines(&rt, rt.alloc(), &plans::AT_LIMITS)?;
     expect_lines(&rt, rt.alloc(), &plans::NO_PLANS)?;
-    for rows in [plans::OF_MANY_SERVERS, plans::NO_PLANS_OF_MANY_SERVERS] {
-        for (count, usage, lines, line) in rows {
-            let text = plans::plan_of_servers(rt.alloc(), count, usage, lines)?;
-            expect_line(&rt, rt.alloc(), text.as_bytes(), line)?;
-        }
-    }
+    expect_lines_of_many(&rt, rt.alloc(), &plans::OF_MANY_SERVERS)?;
+    expect_lines_of_many(&rt, rt.alloc(), &plans::NO_PLANS_OF_MANY_SERVERS)?;
     let text = plans::plan_of_a_thousand_digits(rt.alloc())?;
     expect_line(&rt, rt.alloc(), text.as_bytes(), "41 TooLarge")
 }
