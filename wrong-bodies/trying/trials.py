@@ -13,6 +13,7 @@ from typing import Callable, Dict, List, NamedTuple, Optional, Sequence, Tuple, 
 from trying.edits import PARTS, Edit, Fault, read_edit, rounds_of, together
 from trying.refusals import Refusal, judged, refused_itself, verdict_alone
 from trying.repository import Repository
+from trying.source import types_of
 
 KEPT = "out/incremental"
 BYTES_A_JOB = 3_000_000_000
@@ -157,6 +158,7 @@ class CrateTrial:
 
     def __init__(self, trials: Trials, crate: str, folder: str) -> None:
         self.trials, self.crate, self.folder = trials, crate, folder
+        self.types = types_of(folder)
         self.refused, self.checks = 0, 0
         self.failures: List[str] = []
         self.remarks: List[str] = []
@@ -181,7 +183,7 @@ class CrateTrial:
         """Tries edits together, and alone those that are not found refused so."""
         found, texts = self.check(edits)
         if len(edits) == 1:
-            is_well, why = verdict_alone(edits[0], found)
+            is_well, why = verdict_alone(edits[0], self.types, found)
             self.refused += is_well
             if why:
                 (self.remarks if is_well else self.failures).append(f"{edits[0].name}: {why}")
@@ -192,7 +194,7 @@ class CrateTrial:
             self.try_group(edits[half:])
             return
         for edit in edits:
-            if found.kind == "refused" and refused_itself(edit, texts, found) == "yes":
+            if found.kind == "refused" and refused_itself(edit, self.types, texts, found) == "yes":
                 self.refused += 1
             else:
                 self.try_group([edit])
