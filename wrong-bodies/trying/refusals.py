@@ -81,8 +81,8 @@ def own_failure(function: Function, types: Types, text: str, found: Refusal) -> 
     first, last = text.count("\n", 0, function.start + lead) + 1, text.count("\n", 0, function.end) + 1
     if any(file == function.file and first <= line <= last for file, line in found.places):
         return "yes"
-    in_proofs = [(plain_path(file.split("/")[1:-1]), says) for file, says in found.folders if file.startswith("proofs/")]
-    own = [says for folder, says in in_proofs if any(folder[: len(it)] == it for it in paths)]
+    in_proofs = [(file.split("/")[1:-1], says) for file, says in found.folders if file.startswith("proofs/")]
+    own = [says for folder, says in in_proofs if any(plain_path(folder)[: len(it)] == it for it in paths)]
     return "yes" if any(own) else "by a name" if own else ""
 
 
