@@ -180,7 +180,7 @@ class CrateTrial:
         return judged(output, status, texts), texts
 
     def try_group(self, edits: Sequence[Edit]) -> None:
-        """Tries edits together, and alone those that are not found refused so."""
+        """Tries edits together, then those that are not found refused so, and at last each of these alone."""
         found, texts = self.check(edits)
         if len(edits) == 1:
             is_well, why = verdict_alone(edits[0], self.types, found)
@@ -193,11 +193,12 @@ class CrateTrial:
             self.try_group(edits[:half])
             self.try_group(edits[half:])
             return
-        for edit in edits:
-            if found.kind == "refused" and refused_itself(edit, self.types, texts, found) == "yes":
-                self.refused += 1
-            else:
-                self.try_group([edit])
+        is_refused = lambda it: found.kind == "refused" and refused_itself(it, self.types, texts, found) == "yes"
+        left = [it for it in edits if not is_refused(it)]
+        self.refused += len(edits) - len(left)
+        # The prover may pass over a function that calls a refused one, so a smaller group can show more.
+        for group in [left] if 0 < len(left) < len(edits) else [[it] for it in left]:
+            self.try_group(group)
 
 
 def jobs_that_fit() -> int:
