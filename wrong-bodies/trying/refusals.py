@@ -5,7 +5,9 @@ import re
 from typing import Dict, List, NamedTuple, Sequence, Tuple
 
 from trying.edits import Edit
-from trying.source import Function, functions_of
+from trying.source import Function, functions_of, paths_of
+
+Types = Dict[str, List[Tuple[str, ...]]]
 
 
 class Refusal(NamedTuple):
@@ -32,7 +34,7 @@ def is_unread(file: str, said: str, changed: Dict[str, str]) -> bool:
     if file not in changed and file.startswith("proofs/"):
         return False
     found = re.match(r": (?:(`[^`]*`): )?(.*)", said)
-    return not found or not found[1] or bool(UNREADABLE.search(re.sub(r"`[^`]*`", "", found[2])))
+    return bool(found) and (not found[1] or bool(UNREADABLE.search(re.sub(r"`[^`]*`", "", found[2]))))
 
 
 def judged(output: str, status: int, changed: Dict[str, str]) -> Refusal:
@@ -69,14 +71,10 @@ def plain_path(words: Sequence[str]) -> List[str]:
     return [it.lstrip("+").partition("+")[0] for it in words if it != "fn"]
 
 
-def is_of(path: Sequence[str], function: Function) -> bool:
-    """Returns whether a path, without the crate's name, is that of the function, or of a closure in it."""
-    return plain_path(path)[: len(function.path)] == list(function.path)
-
-
-def own_failure(function: Function, text: str, found: Refusal) -> str:
+def own_failure(function: Function, types: Types, text: str, found: Refusal) -> str:
     """Returns how the function itself is refused: 'yes', 'by a name' that a proof file misses alone, or ''."""
-    said = [it for name, it in found.functions.items() if plain_path(name.split("::")[1:]) == list(function.path)]
+    paths = [list(it) for it in paths_of(function, types)]
+    said = [it for name, it in found.functions.items() if plain_path(name.split("::")[1:]) in paths]
     if said and all(it.startswith("proved") for it in said):
         return ""
     lead = len(text[function.start :]) - len(text[function.start :].lstrip())
@@ -84,16 +82,16 @@ def own_failure(function: Function, text: str, found: Refusal) -> str:
     if any(file == function.file and first <= line <= last for file, line in found.places):
         return "yes"
     in_proofs = [(file.split("/")[1:-1], says) for file, says in found.folders if file.startswith("proofs/")]
-    own = [says for path, says in in_proofs if is_of(path, function)]
+    own = [says for folder, says in in_proofs if any(plain_path(folder)[: len(it)] == it for it in paths)]
     return "yes" if any(own) else "by a name" if own else ""
 
 
-def refused_itself(edit: Edit, texts: Dict[str, str], found: Refusal) -> str:
+def refused_itself(edit: Edit, types: Types, texts: Dict[str, str], found: Refusal) -> str:
     """Returns how the best refused of the functions that the edit touches is refused."""
     ways = set()
     for file, path in edit.touched:
         function = functions_of(file, texts[file]).get(path)
-        ways.add(own_failure(function, texts[file], found) if function else "")
+        ways.add(own_failure(function, types, texts[file], found) if function else "")
     return "yes" if "yes" in ways else "by a name" if "by a name" in ways else ""
 
 
@@ -102,7 +100,7 @@ def refused_functions(found: Refusal) -> List[str]:
     return [name for name, said in found.functions.items() if own_words(said)]
 
 
-def verdict_alone(edit: Edit, found: Refusal) -> Tuple[bool, str]:
+def verdict_alone(edit: Edit, types: Types, found: Refusal) -> Tuple[bool, str]:
     """Returns whether an edit that was tried alone is refused as it must be, and a remark or why not."""
     if found.kind == "proved":
         return False, "accepted"
@@ -118,7 +116,7 @@ def verdict_alone(edit: Edit, found: Refusal) -> Tuple[bool, str]:
     if not edit.touched:
         where = [*others, *dict.fromkeys(file for file, _ in found.folders)]
         return (True, f"it is of no function, and refused at {where[0]}") if where else (False, "refused nowhere")
-    way = refused_itself(edit, edit.texts, found)
+    way = refused_itself(edit, types, edit.texts, found)
     if way == "by a name":
         return True, "refused only since a proof names what the edit took away: change a value, and keep the names"
     if way:

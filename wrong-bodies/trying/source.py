@@ -1,15 +1,17 @@
 """Finds the functions of a source text in Rattle: where each begins, where its body does, and where it ends."""
 from __future__ import annotations
 
+import os
 import re
-from typing import Dict, Iterator, NamedTuple, Sequence, Tuple
+from typing import Dict, Iterator, List, NamedTuple, Tuple
 
 
 class Function(NamedTuple):
-    """A function of a source file: its path in the crate, and where it lies in the text, with what stands above it."""
+    """A function of a source file: its path by that file, and where it lies in the text, with what stands above it."""
 
     file: str
     path: Tuple[str, ...]
+    owner: str  # the type of the impl that it stands in, or nothing
     start: int
     body: int
     end: int
@@ -94,21 +96,27 @@ def function_end(mask: str, at: int) -> Tuple[int, int]:
     return len(mask), len(mask)
 
 
-def impl_name(head: str) -> str:
-    """Returns what the prover calls an impl by its head: JobErrorFromAllocError for 'From<AllocError> for JobError'."""
+def impl_names(head: str) -> Tuple[str, str]:
+    """Returns what the prover calls an impl by its head, and its type: for 'From<AllocError> for JobError' these are
+    JobErrorFromAllocError and JobError."""
     at = re.match(r"\s*<", head) and re.match(r"\s*(<(?:[^<>]|<(?:[^<>]|<[^<>]*>)*>)*>)", head)
     head = re.sub(r"'\w+|\w+\s*::\s*", "", head[at.end() :] if at else head).partition(" where ")[0]
     trait, _, name = head.rpartition(" for ")
-    return "".join([*re.findall(r"\w+", name)[:1], *re.findall(r"\w+", trait)])
+    owner = "".join(re.findall(r"\w+", name)[:1])
+    return owner + "".join(re.findall(r"\w+", trait)), owner
+
+
+def module_of(file: str) -> Tuple[str, ...]:
+    """Returns the path of the module that a file of src/ is."""
+    return tuple(filter(None, re.sub(r"^src/|(/?\b(lib|main|mod))?\.rt$", "", file).split("/")))
 
 
 def functions_of(file: str, text: str) -> Dict[Tuple[str, ...], Function]:
     """Returns the functions of a source file, each from the end of what stands before it to its closing brace."""
-    module = re.sub(r"^src/|(/?\b(lib|main|mod))?\.rt$", "", file)
     mask, found = masked(text), {}
     item = re.compile(r"\bfn\s+(\w+)|\b(impl|trait|mod)\b[^;{}]*\{|[{};]")
 
-    def walk(start: int, end: int, above: Tuple[str, ...]) -> None:
+    def walk(start: int, end: int, above: Tuple[str, ...], owner: str) -> None:
         at = since = start
         while True:
             it = item.search(mask, at, end)
@@ -119,16 +127,33 @@ def functions_of(file: str, text: str) -> Dict[Tuple[str, ...], Function]:
                 path = (*above, it[1])
                 while path in found:
                     path = (*path[:-1], path[-1] + "'")
-                found[path] = Function(file, path, since, body, close)
+                found[path] = Function(file, path, owner, since, body, close)
                 at = since = close
             elif it[2]:
                 close = closing(mask, it.end() - 1)
                 head = mask[it.start() + len(it[2]) : it.end() - 1]
-                name = impl_name(head) if it[2] == "impl" else re.findall(r"\w+", head)[0]
-                walk(it.end(), close - 1, (*above, name))
+                name, of = impl_names(head) if it[2] == "impl" else (re.findall(r"\w+", head)[0], "")
+                walk(it.end(), close - 1, (*above, name), of)
                 at = since = close
             else:
                 at = since = closing(mask, it.start()) if it[0] == "{" else it.end()
 
-    walk(0, len(text), tuple(filter(None, module.split("/"))))
+    walk(0, len(text), module_of(file), "")
     return found
+
+
+def types_of(folder: str) -> Dict[str, List[Tuple[str, ...]]]:
+    """Returns the modules of a crate that declare types, by the types' names."""
+    found: Dict[str, List[Tuple[str, ...]]] = {}
+    for at, _, names in os.walk(f"{folder}/src"):
+        for name in names:
+            with open(f"{at}/{name}", encoding="utf-8") as it:
+                types = re.findall(r"\b(?:struct|enum)\s+(\w+)", masked(it.read()))
+            for one in types:
+                found.setdefault(one, []).append(module_of(os.path.relpath(f"{at}/{name}", folder)))
+    return found
+
+
+def paths_of(function: Function, types: Dict[str, List[Tuple[str, ...]]]) -> List[Tuple[str, ...]]:
+    """Returns the paths by which the prover may name a function: a method's begins with the module of its type."""
+    return [function.path, *[(*it, *function.path[-2:]) for it in types.get(function.owner, [])]]

@@ -13,6 +13,7 @@ from typing import Callable, Dict, List, NamedTuple, Optional, Sequence, Tuple, 
 from trying.edits import PARTS, Edit, Fault, read_edit, rounds_of, together
 from trying.refusals import Refusal, judged, refused_itself, verdict_alone
 from trying.repository import Repository
+from trying.source import types_of
 
 KEPT = "out/incremental"
 BYTES_A_JOB = 3_000_000_000
@@ -157,6 +158,7 @@ class CrateTrial:
 
     def __init__(self, trials: Trials, crate: str, folder: str) -> None:
         self.trials, self.crate, self.folder = trials, crate, folder
+        self.types = types_of(folder)
         self.refused, self.checks = 0, 0
         self.failures: List[str] = []
         self.remarks: List[str] = []
@@ -178,10 +180,10 @@ class CrateTrial:
         return judged(output, status, texts), texts
 
     def try_group(self, edits: Sequence[Edit]) -> None:
-        """Tries edits together, and alone those that are not found refused so."""
+        """Tries edits together, then those that are not found refused so, and at last each of these alone."""
         found, texts = self.check(edits)
         if len(edits) == 1:
-            is_well, why = verdict_alone(edits[0], found)
+            is_well, why = verdict_alone(edits[0], self.types, found)
             self.refused += is_well
             if why:
                 (self.remarks if is_well else self.failures).append(f"{edits[0].name}: {why}")
@@ -191,11 +193,12 @@ class CrateTrial:
             self.try_group(edits[:half])
             self.try_group(edits[half:])
             return
-        for edit in edits:
-            if found.kind == "refused" and refused_itself(edit, texts, found) == "yes":
-                self.refused += 1
-            else:
-                self.try_group([edit])
+        is_refused = lambda it: found.kind == "refused" and refused_itself(it, self.types, texts, found) == "yes"
+        left = [it for it in edits if not is_refused(it)]
+        self.refused += len(edits) - len(left)
+        # The prover may pass over a function that calls a refused one, so a smaller group can show more.
+        for group in [left] if 0 < len(left) < len(edits) else [[it] for it in left]:
+            self.try_group(group)
 
 
 def jobs_that_fit() -> int:
