@@ -88,9 +88,10 @@ pub(crate) const TWO: Farm = Farm {
 impl Farm {
     /// The machine at the opening of this backend.
     pub(crate) fn machine(self, alloc: Global) -> Result<Machine, Fail> {
+        let table = self.table();
         let backend = match self.c {
-            Some(c) => self.of_three(alloc, c)?,
-            None => self.of_two(alloc)?,
+            Some(c) => self.of_three(alloc, c, table)?,
+            None => self.of_two(alloc, table)?,
         };
         Ok(Machine::open(alloc, &backend)?)
     }
@@ -103,30 +104,30 @@ impl Farm {
         })
     }
 
-    fn of_two(self, alloc: Global) -> Result<Backend, Fail> {
-        let a = named(b"a", self.a)?;
-        let b = named(b"b", self.b)?;
+    fn of_two(self, alloc: Global, table: Option<TableSettings>) -> Result<Backend, Fail> {
+        let a = named(b"a", self.a.settings())?;
+        let b = named(b"b", self.b.settings())?;
         let servers = vec![in alloc; a, b]?;
-        let table = self.table();
         Ok(Backend::new(self.balance, self.all_backups, table, servers))
     }
 
-    fn of_three(self, alloc: Global, last: Host) -> Result<Backend, Fail> {
-        let a = named(b"a", self.a)?;
-        let b = named(b"b", self.b)?;
-        let c = named(b"c", last)?;
+    fn of_three(
+        self,
+        alloc: Global,
+        last: Host,
+        table: Option<TableSettings>,
+    ) -> Result<Backend, Fail> {
+        let a = named(b"a", self.a.settings())?;
+        let b = named(b"b", self.b.settings())?;
+        let c = named(b"c", last.settings())?;
         let servers = vec![in alloc; a, b, c]?;
-        let table = self.table();
         Ok(Backend::new(self.balance, self.all_backups, table, servers))
     }
 }
 
-fn named(name: &[u8], host: Host) -> Result<BackendServer, Fail>
+fn named(name: &[u8], settings: ServerSettings) -> Result<BackendServer, Fail>
     ensures { IfOk result (λ server. name_of name.now ≡ Ok server.name) }
 {
     let name = Name::read(name)?;
-    Ok(BackendServer {
-        name,
-        settings: host.settings(),
-    })
+    Ok(BackendServer { name, settings })
 }

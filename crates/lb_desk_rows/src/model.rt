@@ -60,9 +60,11 @@ fn what_is_made_gives_its_parts_back(rt: HostRuntime) -> Result<(), Fail> {
         event: Event::Serve(request),
         reply: Reply::Served(b, ServedAs::Made),
     };
-    let (rules, cost) = match &entry.event {
-        Event::Serve(request) => (request.rules.servers(), request.cost),
-        _ => ([].as_slice(), 0),
+    let event = match &entry.event {
+        Event::Serve(request) => {
+            request.rules.servers() == [b, a, b].as_slice() && request.cost == 20
+        }
+        _ => false,
     };
     let cases = [
         ("name", name.as_bytes() == b"a".as_slice()),
@@ -70,8 +72,7 @@ fn what_is_made_gives_its_parts_back(rt: HostRuntime) -> Result<(), Fail> {
         ("all backups", backend.all_backups()),
         ("table", backend.table() == Some(table)),
         ("servers", backend.servers().len() == 1),
-        ("rules", rules == [b, a, b].as_slice()),
-        ("cost", cost == 20),
+        ("rules and cost", event),
         ("reply", entry.reply == Reply::Served(b, ServedAs::Made)),
     ];
     for (part, same) in cases {
