@@ -9,6 +9,3 @@ mod rule;
 
 pub use request_line::RequestLine;
 pub use rule::{CheckRequest, CheckRule};
-
-#[cfg(test)]
-mod tests;

@@ -1,8 +1,8 @@
 ghost use Rattle.std.specs.Prelude.{◌≡◌};
 
-use crate::{KeyText, Pin, PinId, PinKey, Score, View, ViewServer, honoured, permitted, score};
+use crate::values::{at, set};
 use lb_types::{Name, Place, ServerId, ServerSet};
-use std::alloc::{AllocError, Global};
+use pin_set::{KeyText, Pin, PinId, PinKey, Score, View, ViewServer, honoured, permitted, score};
 use std::net::Ipv4Addr;
 use std::test::Fail;
 
@@ -12,20 +12,10 @@ const B: u8 = 1;
 
 const C: u8 = 127;
 
-fn set(servers: &[u8]) -> ServerSet {
-    let mut set = ServerSet::empty();
-    for server in servers {
-        set = set.with(ServerId::new(*server % 128));
-    }
-    set
-}
-
-fn at(server: u8) -> Place {
-    Some(ServerId::new(server % 128))
-}
-
+// A pin may go to the usable servers that it wants, or to all usable ones. A place is honoured where it serves and is wanted, or
+// nothing wanted is usable.
 #[test]
-fn a_pin_may_go_to_the_usable_servers_that_it_wants_or_to_all_usable_ones(rt: HostRuntime) {
+fn servers_that_a_pin_wants_and_those_that_it_may_have(rt: HostRuntime) {
     let cases: [(&[u8], &[u8], &[u8]); 6] = [
         (&[A], &[A, B], &[A]),
         (&[A, C], &[A, B], &[A]),
@@ -35,16 +25,9 @@ fn a_pin_may_go_to_the_usable_servers_that_it_wants_or_to_all_usable_ones(rt: Ho
         (&[B, C], &[A, C], &[C]),
     ];
     for (want, usable, wanted) in cases {
-        assert_eq!(rt;
-            permitted(set(want), set(usable)),
-            set(wanted),
-            "at {want:?} {usable:?}"
-        );
+        let found = permitted(set(want), set(usable));
+        assert_eq!(rt; found, set(wanted), "at {want:?} {usable:?}");
     }
-}
-
-#[test]
-fn a_place_is_honoured_where_it_serves_and_is_wanted_or_nothing_wanted_is_usable(rt: HostRuntime) {
     let cases: [(Place, &[u8], &[u8], bool, bool); 8] = [
         (at(A), &[], &[B], true, true),
         (at(A), &[], &[B], false, false),
@@ -56,8 +39,8 @@ fn a_place_is_honoured_where_it_serves_and_is_wanted_or_nothing_wanted_is_usable
         (None, &[], &[A], true, false),
     ];
     for (place, want, usable, serving, kept) in cases {
-        let answer = honoured(place, set(want), set(usable), serving);
-        assert_eq!(rt; answer, kept, "at {place:?} {want:?} {usable:?}");
+        let found = honoured(place, set(want), set(usable), serving);
+        assert_eq!(rt; found, kept, "at {place:?} {want:?} {usable:?}");
     }
 }
 
@@ -88,9 +71,8 @@ fn a_pin_that_loses_its_server_is_moved_and_one_that_had_none_is_not(
         cost: 1000,
     };
     assert_eq!(rt; score(&view, &places), wanted);
-    assert_eq!(rt; view.usable(), ServerSet::empty());
-    assert_eq!(rt; view.servers().len(), 1);
-    assert_eq!(rt; view.pins().len(), 3);
+    let told = (view.usable(), view.servers().len(), view.pins().len());
+    assert_eq!(rt; told, (ServerSet::empty(), 1, 3));
     Ok(())
 }
 
@@ -114,11 +96,11 @@ fn keys_are_the_same_where_their_bytes_are(rt: HostRuntime) -> Result<(), Fail> 
     let one = PinKey::Text(KeyText::copied_from(rt.alloc(), b"k1")?);
     let two = PinKey::Text(KeyText::new(vec![in rt.alloc(); b'k', b'2']?));
     let copy = one.clone()?;
-    assert!(rt; copy == one);
-    assert!(rt; one != two);
-    assert!(rt; one != PinKey::Ipv4(Ipv4Addr::new(107, 49, 0, 0)));
-    if let PinKey::Text(text) = &copy {
-        assert_eq!(rt; text.as_bytes(), b"k1".as_slice());
-    }
+    let is_one = match &copy {
+        PinKey::Text(text) => text.as_bytes() == b"k1".as_slice(),
+        PinKey::Ipv4(_) => false,
+    };
+    let address = PinKey::Ipv4(Ipv4Addr::new(107, 49, 0, 0));
+    assert!(rt; is_one && copy == one && one != two && one != address);
     Ok(())
 }

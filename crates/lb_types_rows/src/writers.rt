@@ -1,4 +1,4 @@
-use crate::Counted;
+use lb_types_counted::Counted;
 use std::alloc::Global;
 use std::io;
 use std::io::{BufWriter, ErrorKind, Write};
@@ -97,34 +97,25 @@ fn failures_are_counted_and_interruptions_tried_again(rt: HostRuntime) {
     ];
     for (script, kind, failures, taken) in cases {
         let (found, counted, went) = outcome(rt.alloc(), script);
-        assert_eq!(rt; found, kind);
-        assert_eq!(rt; counted, failures);
-        assert_eq!(rt; went.as_slice(), taken.as_bytes());
+        let told = (found, counted, went.as_slice());
+        assert_eq!(rt; told, (kind, failures, taken.as_bytes()));
     }
 }
 
+// A flush that fails is passed on and a write of no bytes takes none, and neither is counted. A vector and a buffered writer take all.
 #[test]
-fn no_bytes_are_no_failure(rt: HostRuntime) {
+fn flushes_writes_of_nothing_and_writers_that_take_all(rt: HostRuntime) -> Result<(), Fail> {
     let script = [Step::Take(0), Step::Take(0)];
     let mut out = Counted::new(Scripted::new(rt.alloc(), &script));
-    assert_eq!(rt; out.write(b"").ok(), Some(0));
-    assert_eq!(rt; out.failures(), 0);
-    assert_eq!(rt; out.write(b"x").ok(), Some(0));
-    assert_eq!(rt; out.failures(), 1);
-}
-
-#[test]
-fn a_failed_flush_is_passed_on_and_not_counted(rt: HostRuntime) {
-    let mut out = Counted::new(Scripted::new(rt.alloc(), &[]));
+    let flushed = out.flush().err().map(|error| error.kind());
     assert_eq!(rt;
-        out.flush().err().map(|error| error.kind()),
-        Some(ErrorKind::StorageFull)
+        (flushed, out.failures()),
+        (Some(ErrorKind::StorageFull), 0)
     );
-    assert_eq!(rt; out.failures(), 0);
-}
-
-#[test]
-fn a_vector_and_a_buffered_writer_take_all(rt: HostRuntime) -> Result<(), Fail> {
+    for (bytes, failures) in [(b"".as_slice(), 0), (b"x", 1)] {
+        let taken = out.write(bytes).ok();
+        assert_eq!(rt; (taken, out.failures()), (Some(0), failures), "{bytes:?}");
+    }
     let mut plain = Counted::new(Vec::new(rt.alloc()));
     plain.write_all(b"abc")?;
     assert_eq!(rt; plain.into_inner().as_slice(), b"abc".as_slice());
@@ -132,8 +123,8 @@ fn a_vector_and_a_buffered_writer_take_all(rt: HostRuntime) -> Result<(), Fail> 
     let mut buffered = Counted::new(BufWriter::with_capacity(rt.alloc(), 2, &mut bytes)?);
     buffered.write_all(b"abcde")?;
     buffered.flush()?;
-    assert_eq!(rt; buffered.failures(), 0);
+    let failures = buffered.failures();
     drop(buffered);
-    assert_eq!(rt; bytes.as_slice(), b"abcde".as_slice());
+    assert_eq!(rt; (failures, bytes.as_slice()), (0, b"abcde".as_slice()));
     Ok(())
 }

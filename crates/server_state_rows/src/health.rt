@@ -1,57 +1,83 @@
 ghost use Rattle.std.specs.Prelude.{◌≤◌};
 
-use crate::Flip::{Stays, WentDown, WentUp};
-use crate::Health;
+use rise_fall::Flip::{self, Stays, WentDown, WentUp};
+use rise_fall::Health;
 use std::alloc::{AllocError, Global};
 use std::process::Abort;
 use std::test::Fail;
 
-// At the start one failure brings the server down; then two successes in a row bring it up, and three failures in a
-// row down, whatever came before them.
+/// What happens to a server's health.
+#[derive(Clone, Copy, Debug)]
+enum Step {
+    /// A check's result comes, and changes this.
+    Takes(bool, Flip),
+    /// An operator sets it.
+    Forced(bool),
+    /// Maintenance ends.
+    Rewarmed,
+}
+
+use Step::{Forced, Rewarmed, Takes};
+
+// Each step with whether the server counts as up behind it. At the start one failure brings it down; then two successes in a row bring
+// it up, and three failures in a row down, whatever came before them.
+const OF_TWO_AND_THREE: [&[(Step, bool)]; 3] = [
+    &[
+        (Takes(false, WentDown), false),
+        (Takes(true, Stays), false),
+        (Takes(true, WentUp), true),
+        (Takes(false, Stays), true),
+        (Takes(false, Stays), true),
+        (Takes(true, Stays), true),
+        (Takes(false, Stays), true),
+        (Takes(false, Stays), true),
+        (Takes(false, WentDown), false),
+    ],
+    // One that is forced up needs all its failures.
+    &[
+        (Forced(true), true),
+        (Takes(false, Stays), true),
+        (Takes(false, Stays), true),
+        (Takes(false, WentDown), false),
+    ],
+    // The end of maintenance warms it anew.
+    &[
+        (Forced(false), false),
+        (Rewarmed, true),
+        (Takes(false, WentDown), false),
+    ],
+];
+
+const OF_ONE_AND_ONE: [(Step, bool); 3] = [
+    (Takes(false, WentDown), false),
+    (Takes(true, WentUp), true),
+    (Takes(true, Stays), true),
+];
+
+/// Takes the steps, and compares behind each.
+fn go_through(rt: &impl Abort, mut health: Health, steps: &[(Step, bool)]) {
+    for (step, up) in steps {
+        let is_right = match step {
+            Takes(ok, flip) => health.take(*ok) == *flip,
+            Forced(up) => {
+                health.force(*up);
+                true
+            }
+            Rewarmed => {
+                health.rewarm();
+                true
+            }
+        };
+        assert!(rt; is_right && health.is_up() == *up, "{step:?} in {steps:?}");
+    }
+}
+
 #[test]
 fn only_results_in_a_row_count(rt: HostRuntime) {
-    let rows = [
-        (false, WentDown),
-        (true, Stays),
-        (true, WentUp),
-        (false, Stays),
-        (false, Stays),
-        (true, Stays),
-        (false, Stays),
-        (false, Stays),
-        (false, WentDown),
-    ];
-    let mut health = Health::new(2, 3);
-    for (ok, flip) in rows {
-        assert_eq!(rt; health.take(ok), flip);
+    for steps in OF_TWO_AND_THREE {
+        go_through(&rt, Health::new(2, 3), steps);
     }
-}
-
-#[test]
-fn a_server_that_is_forced_up_needs_all_its_failures(rt: HostRuntime) {
-    let mut health = Health::new(2, 3);
-    health.force(true);
-    for flip in [Stays, Stays, WentDown] {
-        assert_eq!(rt; health.take(false), flip);
-    }
-}
-
-#[test]
-fn each_result_counts_where_one_is_enough(rt: HostRuntime) {
-    let mut health = Health::new(1, 1);
-    for (ok, flip) in [(false, WentDown), (true, WentUp), (true, Stays)] {
-        assert_eq!(rt; health.take(ok), flip);
-    }
-}
-
-#[test]
-fn leaving_maintenance_warms_the_server_anew(rt: HostRuntime) {
-    let mut health = Health::new(2, 3);
-    health.force(false);
-    assert!(rt; !health.is_up());
-    health.rewarm();
-    assert!(rt; health.is_up());
-    assert_eq!(rt; health.take(false), WentDown);
+    go_through(&rt, Health::new(1, 1), &OF_ONE_AND_ONE);
 }
 
 /// The results that a base puts before the first one: how many, and which.
@@ -132,12 +158,8 @@ fn compare(
         } else {
             WentDown
         };
-        assert_eq!(rt;
-            health.take(ok),
-            flip,
-            "rise {rise} fall {fall} {results:?}"
-        );
-        assert_eq!(rt; health.is_up(), now);
+        let told = (health.take(ok), health.is_up());
+        assert_eq!(rt; told, (flip, now), "rise {rise} fall {fall} {results:?}");
         up = now;
     }
     Ok(())

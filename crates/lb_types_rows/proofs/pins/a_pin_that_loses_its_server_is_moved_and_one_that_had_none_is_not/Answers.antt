@@ -2,7 +2,7 @@ use Rattle.std.proofs.Common.{◌≡◌, ◌≢◌, true, false, Some, refl, sym
 use Rattle.lb_types.specs.Servers.{has}
 use Rattle.pin_set.proofs.SmallViews.{small_view, other_set, none_below, some_below, IsSmall}
 use Rattle.pin_set.specs.Views.{IsBelow}
-use Rattle.pin_set.proofs.tests.a_pin_that_loses_its_server_is_moved_and_one_that_had_none_is_not.Goals as goal
+use Rattle.lb_types_rows.proofs.pins.a_pin_that_loses_its_server_is_moved_and_one_that_had_none_is_not.Goals as goal
 
 pub new-view-requires : goal.new-view-requires
 new-view-requires g c =
