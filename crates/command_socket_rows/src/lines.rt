@@ -1,7 +1,10 @@
-use crate::{AdminState, Command, CommandFault, ServerName, Setting, Shown, read_commands};
 use CommandFault::{BadNumber, MissingWord, UnknownCommand};
+use command_socket_words::{
+    AdminState, Command, CommandFault, ServerName, Setting, Shown, read_commands,
+};
 use lb_types::{Name, NameFault};
 use std::alloc::{AllocError, Global};
+use std::process::Abort;
 use std::test::Fail;
 
 /// Each command of the table, in each form. The number is 7.
@@ -74,24 +77,32 @@ fn line_of(alloc: Global, words: &[&str]) -> Result<String, AllocError> {
     Ok(line)
 }
 
-#[test]
-fn each_command_is_read_in_each_form(rt: HostRuntime) -> Result<(), Fail> {
-    let commands = commands()?;
-    for (i, form) in FORMS.iter().enumerate() {
-        let line = line_of(rt.alloc(), form)?;
-        let read = read_commands(rt.alloc(), line.as_bytes())?;
-        assert_eq!(rt; read.as_slice(), [Ok(commands[i])].as_slice(), "{line}");
-    }
+/// The line gives these commands and faults.
+fn expect(
+    rt: &impl Abort,
+    alloc: Global,
+    line: &str,
+    wanted: &[Result<Command, CommandFault>],
+) -> Result<(), Fail> {
+    let read = read_commands(alloc, line.as_bytes())?;
+    assert_eq!(rt; read.as_slice(), wanted, "{line:?}");
     Ok(())
 }
 
+// A command that ends early lacks a word, and a word too many is no command.
 #[test]
-fn a_command_that_ends_early_lacks_a_word(rt: HostRuntime) -> Result<(), Fail> {
-    for form in FORMS {
+fn each_command_is_read_in_each_form_and_neither_shorter_nor_longer(
+    rt: HostRuntime,
+) -> Result<(), Fail> {
+    let commands = commands()?;
+    for (i, form) in FORMS.iter().enumerate() {
+        let mut line = line_of(rt.alloc(), form)?;
+        expect(&rt, rt.alloc(), &line, &[Ok(commands[i])])?;
+        line.push_str(" a")?;
+        expect(&rt, rt.alloc(), &line, &[Err(UnknownCommand)])?;
         for count in 1..form.len() {
             let line = line_of(rt.alloc(), &form[..count])?;
-            let read = read_commands(rt.alloc(), line.as_bytes())?;
-            assert_eq!(rt; read.as_slice(), [Err(MissingWord)].as_slice(), "{line}");
+            expect(&rt, rt.alloc(), &line, &[Err(MissingWord)])?;
         }
     }
     Ok(())
@@ -111,20 +122,8 @@ fn a_wrong_word_is_told_in_each_place(rt: HostRuntime) -> Result<(), Fail> {
             } else {
                 UnknownCommand
             };
-            let read = read_commands(rt.alloc(), line.as_bytes())?;
-            assert_eq!(rt; read.as_slice(), [Err(fault)].as_slice(), "{line}");
+            expect(&rt, rt.alloc(), &line, &[Err(fault)])?;
         }
-    }
-    Ok(())
-}
-
-#[test]
-fn a_word_too_many_is_refused_behind_each_command(rt: HostRuntime) -> Result<(), Fail> {
-    for form in FORMS {
-        let mut line = line_of(rt.alloc(), form)?;
-        line.push_str(" a")?;
-        let read = read_commands(rt.alloc(), line.as_bytes())?;
-        assert_eq!(rt; read.as_slice(), [Err(UnknownCommand)].as_slice(), "{line}");
     }
     Ok(())
 }
@@ -151,119 +150,123 @@ fn the_first_fault_from_the_left_is_told(rt: HostRuntime) -> Result<(), Fail> {
         ("plan\tbackend web", UnknownCommand),
         ("enable server web/a\r", UnknownCommand),
         ("\t", UnknownCommand),
+        // A server is two names with one slash between.
+        ("enable server web", UnknownCommand),
+        ("enable server /", UnknownCommand),
+        ("enable server web/", UnknownCommand),
+        ("enable server /a", UnknownCommand),
+        ("enable server web/a/b", UnknownCommand),
+        ("enable server web//a", UnknownCommand),
+        ("enable server -/a", UnknownCommand),
+        ("enable server web/-", UnknownCommand),
+        ("enable server web/a,b", UnknownCommand),
+        ("enable server w%b/a", UnknownCommand),
+        // A number is decimal digits, and less than 2^64.
+        ("set weight web/a 18446744073709551616", BadNumber),
+        ("set server web/a weight 18446744073709551616", BadNumber),
+        ("set maxconn server web/a 18446744073709551616", BadNumber),
+        ("set maxpins server web/a 18446744073709551616", BadNumber),
+        (
+            "set weight web/a 99999999999999999999999999999999999999999999",
+            BadNumber,
+        ),
+        ("set weight web/a -1", BadNumber),
+        ("set weight web/a +1", BadNumber),
+        ("set weight web/a 0x7", BadNumber),
+        ("set weight web/a 7%", BadNumber),
     ];
     for (line, fault) in cases {
-        let read = read_commands(rt.alloc(), line.as_bytes())?;
-        assert_eq!(rt; read.as_slice(), [Err(fault)].as_slice(), "{line:?}");
+        expect(&rt, rt.alloc(), line, &[Err(fault)])?;
     }
     Ok(())
 }
 
 #[test]
-fn a_server_is_two_names_with_a_slash_between(rt: HostRuntime) -> Result<(), Fail> {
-    for word in [
-        "web", "/", "web/", "/a", "web/a/b", "web//a", "-/a", "web/-", "web/a,b", "w%b/a",
-    ] {
-        let line = format!(in rt.alloc(); "enable server {word}")?;
-        let read = read_commands(rt.alloc(), line.as_bytes())?;
-        assert_eq!(rt; read.as_slice(), [Err(UnknownCommand)].as_slice(), "{word}");
+fn names_and_numbers_as_long_as_they_may_be(rt: HostRuntime) -> Result<(), Fail> {
+    let largest = 18446744073709551615;
+    let cases = [
+        ("set weight web/a 0", Setting::Weight(0)),
+        ("set weight web/a 257", Setting::Weight(257)),
+        ("set weight web/a 0007", Setting::Weight(7)),
+        (
+            "set weight web/a 18446744073709551615",
+            Setting::Weight(largest),
+        ),
+        (
+            "set server web/a weight 18446744073709551615",
+            Setting::Weight(largest),
+        ),
+        (
+            "set maxconn server web/a 18446744073709551615",
+            Setting::MaxConnections(largest),
+        ),
+        (
+            "set maxpins server web/a 18446744073709551615",
+            Setting::MaxPins(largest),
+        ),
+    ];
+    let server = server_named("web", "a")?;
+    for (line, setting) in cases {
+        expect(&rt, rt.alloc(), line, &[Ok(Command::Set(server, setting))])?;
     }
     for (backend, server) in [("web", "a"), ("w:80", "a.b_c-"), ("--", "0")] {
         let line = format!(in rt.alloc(); "disable server {backend}/{server}")?;
-        let read = read_commands(rt.alloc(), line.as_bytes())?;
-        let command = Command::Set(
-            server_named(backend, server)?,
-            Setting::Admin(AdminState::Maint),
-        );
-        assert_eq!(rt;
-            read.as_slice(),
-            [Ok(command)].as_slice(),
-            "{backend}/{server}"
-        );
+        let maint = Setting::Admin(AdminState::Maint);
+        let command = Command::Set(server_named(backend, server)?, maint);
+        expect(&rt, rt.alloc(), &line, &[Ok(command)])?;
     }
     Ok(())
 }
 
 #[test]
-fn a_number_is_decimal_digits_below_2_to_the_64(rt: HostRuntime) -> Result<(), Fail> {
-    let server = server_named("web", "a")?;
-    let cases = [
-        ("0", Ok(0)),
-        ("257", Ok(257)),
-        ("0007", Ok(7)),
-        ("18446744073709551615", Ok(18446744073709551615)),
-        ("18446744073709551616", Err(BadNumber)),
-        (
-            "99999999999999999999999999999999999999999999",
-            Err(BadNumber),
-        ),
-        ("-1", Err(BadNumber)),
-        ("+1", Err(BadNumber)),
-        ("0x7", Err(BadNumber)),
-        ("7%", Err(BadNumber)),
-    ];
-    for (word, number) in cases {
-        let line = format!(in rt.alloc(); "set weight web/a {word}")?;
-        let read = read_commands(rt.alloc(), line.as_bytes())?;
-        let wanted = number.map(|weight| Command::Set(server, Setting::Weight(weight)));
-        assert_eq!(rt; read.as_slice(), [wanted].as_slice(), "{word}");
-    }
-    Ok(())
-}
-
-#[test]
-fn each_number_may_be_the_largest_and_no_larger(rt: HostRuntime) -> Result<(), Fail> {
-    let largest = 18446744073709551615;
-    let cases = [
-        ("set weight web/a", Setting::Weight(largest)),
-        ("set server web/a weight", Setting::Weight(largest)),
-        ("set maxconn server web/a", Setting::MaxConnections(largest)),
-        ("set maxpins server web/a", Setting::MaxPins(largest)),
-    ];
-    for (words, setting) in cases {
-        let line = format!(in rt.alloc();
-            "{words} 18446744073709551615; {words} 18446744073709551616"
-        )?;
-        let read = read_commands(rt.alloc(), line.as_bytes())?;
-        let server = server_named("web", "a")?;
-        let wanted = [Ok(Command::Set(server, setting)), Err(BadNumber)];
-        assert_eq!(rt; read.as_slice(), wanted.as_slice(), "{line}");
-    }
-    Ok(())
-}
-
-#[test]
-fn nothing_between_semicolons_gives_nothing(rt: HostRuntime) -> Result<(), Fail> {
+fn lines_of_several_commands_and_of_none(rt: HostRuntime) -> Result<(), Fail> {
     for line in ["", " ", ";", ";;;", " ; ;  ; "] {
-        let read = read_commands(rt.alloc(), line.as_bytes())?;
-        assert!(rt; read.is_empty(), "{line:?}");
+        expect(&rt, rt.alloc(), line, &[])?;
     }
-    let read = read_commands(rt.alloc(), b";  stop ;; halt; plan   backend;stop")?;
-    let wanted = [
-        Ok(Command::Stop),
-        Err(UnknownCommand),
-        Err(MissingWord),
-        Ok(Command::Stop),
+    let largest = Command::Set(
+        server_named("web", "a")?,
+        Setting::Weight(18446744073709551615),
+    );
+    let drain = Setting::Admin(AdminState::Drain);
+    let cases: [(&str, &[Result<Command, CommandFault>]); 3] = [
+        (
+            ";  stop ;; halt; plan   backend;stop",
+            &[
+                Ok(Command::Stop),
+                Err(UnknownCommand),
+                Err(MissingWord),
+                Ok(Command::Stop),
+            ],
+        ),
+        (
+            "set server web/a state drain;; stop; halt",
+            &[
+                Ok(Command::Set(server_named("web", "a")?, drain)),
+                Ok(Command::Stop),
+                Err(UnknownCommand),
+            ],
+        ),
+        (
+            "set weight web/a 18446744073709551615; set weight web/a 18446744073709551616",
+            &[Ok(largest), Err(BadNumber)],
+        ),
     ];
-    assert_eq!(rt; read.as_slice(), wanted.as_slice());
-    Ok(())
-}
-
-#[test]
-fn a_line_of_more_than_4096_bytes_is_one_unknown_command(rt: HostRuntime) -> Result<(), Fail> {
+    for (line, wanted) in cases {
+        expect(&rt, rt.alloc(), line, wanted)?;
+    }
+    // A line of more than 4096 bytes is one unknown command.
     let mut line = String::from_str(rt.alloc(), "stop;stop;")?;
     for _ in 0..4086 {
         line.push_str(" ")?;
     }
-    let read = read_commands(rt.alloc(), line.as_bytes())?;
-    assert_eq!(rt;
-        read.as_slice(),
-        [Ok(Command::Stop), Ok(Command::Stop)].as_slice()
-    );
+    expect(
+        &rt,
+        rt.alloc(),
+        &line,
+        &[Ok(Command::Stop), Ok(Command::Stop)],
+    )?;
     line.push_str(" ")?;
-    let read = read_commands(rt.alloc(), line.as_bytes())?;
-    assert_eq!(rt; read.as_slice(), [Err(UnknownCommand)].as_slice());
-    Ok(())
+    expect(&rt, rt.alloc(), &line, &[Err(UnknownCommand)])
 }
 
 #[test]
@@ -276,7 +279,6 @@ fn faults_have_their_numbers_and_texts(rt: HostRuntime) {
         (CommandFault::NoSuchServer, 10, "10 NoSuchServer"),
     ];
     for (fault, number, text) in cases {
-        assert_eq!(rt; fault.number(), number);
-        assert_eq!(rt; fault.text(), text);
+        assert_eq!(rt; (fault.number(), fault.text()), (number, text));
     }
 }

@@ -9,8 +9,8 @@ use Rattle.lb_config.specs.Finds.{find_backend, find_server}
 use Rattle.lb_config.specs.declared.find.FindFault.{FindFault}
 use Rattle.lb_config.specs.declared.find.FindFault.TheVariants.{NoBackend, NoSuchServer}
 use Rattle.server_state.specs.declared.change.Change.{Change}
-use Rattle.command_socket_resolve.specs.declared.resolved.Resolved.{Resolved}
-use Rattle.command_socket_resolve.specs.declared.resolved.Resolved.TheVariants as Is
+use Rattle.command_socket.specs.declared.resolved.Resolved.{Resolved}
+use Rattle.command_socket.specs.declared.resolved.Resolved.TheVariants as Is
 
 -- the command changes a server
 abbrev pub is_change : Command → Bool

@@ -1,68 +1,75 @@
-use crate::{ErrorKind, Job, exit_status, read_words};
+use lb_cli_words::{ErrorKind, Job, exit_status, read_words};
 use std::test::Fail;
 
 #[test]
-fn verify_takes_one_file(rt: HostRuntime) -> Result<(), Fail> {
-    let cases: [(&[&str], &str); 8] = [
-        (&["stickylb", "verify", "row3.plan"], "row3.plan"),
-        (&["./another name", "verify", "a plan"], "a plan"),
-        (&["stickylb", "verify", "row3.plan", "--"], "row3.plan"),
-        (&["stickylb", "verify", "--", "row3.plan"], "row3.plan"),
-        (&["stickylb", "verify", "--", "--help"], "--help"),
-        (&["stickylb", "verify", "--", "--"], "--"),
-        (&["stickylb", "verify", "-"], "-"),
-        (&["stickylb", "verify", "verify"], "verify"),
+fn words_and_the_jobs_that_they_ask_for(rt: HostRuntime) -> Result<(), Fail> {
+    let cases: [(&[&str], Job); 17] = [
+        (
+            &["stickylb", "verify", "row3.plan"],
+            Job::Verify { file: "row3.plan" },
+        ),
+        (
+            &["./another name", "verify", "a plan"],
+            Job::Verify { file: "a plan" },
+        ),
+        (
+            &["stickylb", "verify", "row3.plan", "--"],
+            Job::Verify { file: "row3.plan" },
+        ),
+        (
+            &["stickylb", "verify", "--", "row3.plan"],
+            Job::Verify { file: "row3.plan" },
+        ),
+        (
+            &["stickylb", "verify", "--", "--help"],
+            Job::Verify { file: "--help" },
+        ),
+        (
+            &["stickylb", "verify", "--", "--"],
+            Job::Verify { file: "--" },
+        ),
+        (&["stickylb", "verify", "-"], Job::Verify { file: "-" }),
+        (
+            &["stickylb", "verify", "verify"],
+            Job::Verify { file: "verify" },
+        ),
+        (
+            &["stickylb", "plan", "drain.sheet"],
+            Job::Plan {
+                file: "drain.sheet",
+            },
+        ),
+        (&["stickylb", "plan", "--", "-f"], Job::Plan { file: "-f" }),
+        (&["stickylb", "plan", "plan"], Job::Plan { file: "plan" }),
+        (
+            &["stickylb", "check", "-f", "web.cfg"],
+            Job::Check { file: "web.cfg" },
+        ),
+        (
+            &["stickylb", "check", "-fweb.cfg"],
+            Job::Check { file: "web.cfg" },
+        ),
+        (
+            &["stickylb", "check", "-f=web.cfg"],
+            Job::Check { file: "web.cfg" },
+        ),
+        (&["stickylb", "check", "-fh"], Job::Check { file: "h" }),
+        (&["stickylb", "check", "-f", "-"], Job::Check { file: "-" }),
+        (
+            &["stickylb", "check", "-f", "web.cfg", "--"],
+            Job::Check { file: "web.cfg" },
+        ),
     ];
-    for (words, file) in cases {
-        assert_eq!(rt;
-            read_words(rt.alloc(), words)?,
-            Job::Verify { file },
-            "at {words:?}"
-        );
+    for (words, job) in cases {
+        assert_eq!(rt; read_words(rt.alloc(), words)?, job, "at {words:?}");
     }
     Ok(())
 }
 
+// Help is no mistake and goes to the standard output, and its text names the commands and their files.
 #[test]
-fn plan_takes_one_file(rt: HostRuntime) -> Result<(), Fail> {
-    let cases: [(&[&str], &str); 3] = [
-        (&["stickylb", "plan", "drain.sheet"], "drain.sheet"),
-        (&["stickylb", "plan", "--", "-f"], "-f"),
-        (&["stickylb", "plan", "plan"], "plan"),
-    ];
-    for (words, file) in cases {
-        assert_eq!(rt;
-            read_words(rt.alloc(), words)?,
-            Job::Plan { file },
-            "at {words:?}"
-        );
-    }
-    Ok(())
-}
-
-#[test]
-fn check_takes_a_file_by_its_option(rt: HostRuntime) -> Result<(), Fail> {
-    let cases: [(&[&str], &str); 6] = [
-        (&["stickylb", "check", "-f", "web.cfg"], "web.cfg"),
-        (&["stickylb", "check", "-fweb.cfg"], "web.cfg"),
-        (&["stickylb", "check", "-f=web.cfg"], "web.cfg"),
-        (&["stickylb", "check", "-fh"], "h"),
-        (&["stickylb", "check", "-f", "-"], "-"),
-        (&["stickylb", "check", "-f", "web.cfg", "--"], "web.cfg"),
-    ];
-    for (words, file) in cases {
-        assert_eq!(rt;
-            read_words(rt.alloc(), words)?,
-            Job::Check { file },
-            "at {words:?}"
-        );
-    }
-    Ok(())
-}
-
-#[test]
-fn other_words_are_refused(rt: HostRuntime) -> Result<(), Fail> {
-    let cases: [(&[&str], ErrorKind); 18] = [
+fn words_that_ask_for_help_and_wrong_ones(rt: HostRuntime) -> Result<(), Fail> {
+    let refused: [(&[&str], ErrorKind); 18] = [
         (
             &["stickylb"],
             ErrorKind::DisplayHelpOnMissingArgumentOrSubcommand,
@@ -109,18 +116,12 @@ fn other_words_are_refused(rt: HostRuntime) -> Result<(), Fail> {
             ErrorKind::TooManyValues,
         ),
     ];
-    for (words, kind) in cases {
+    for (words, kind) in refused {
         let error = read_words(rt.alloc(), words).err().ok_or("an error")?;
-        assert_eq!(rt; error.kind(), kind, "at {words:?}");
-        assert_eq!(rt; exit_status(&error), 2, "at {words:?}");
-        assert!(rt; error.use_stderr(), "at {words:?}");
+        let told = (error.kind(), exit_status(&error), error.use_stderr());
+        assert_eq!(rt; told, (kind, 2, true), "at {words:?}");
     }
-    Ok(())
-}
-
-#[test]
-fn help_ends_well(rt: HostRuntime) -> Result<(), Fail> {
-    let cases: [&[&str]; 8] = [
+    let helped: [&[&str]; 8] = [
         &["stickylb", "--help"],
         &["stickylb", "-h"],
         &["stickylb", "verify", "--help"],
@@ -130,17 +131,12 @@ fn help_ends_well(rt: HostRuntime) -> Result<(), Fail> {
         &["stickylb", "check", "-h"],
         &["stickylb", "check", "-fa", "--help"],
     ];
-    for words in cases {
+    for words in helped {
         let error = read_words(rt.alloc(), words).err().ok_or("an error")?;
-        assert_eq!(rt; exit_status(&error), 0, "at {words:?}");
-        assert!(rt; !error.use_stderr(), "at {words:?}");
+        let told = (exit_status(&error), error.use_stderr());
+        assert_eq!(rt; told, (0, false), "at {words:?}");
     }
-    Ok(())
-}
-
-#[test]
-fn help_names_the_commands_and_their_files(rt: HostRuntime) -> Result<(), Fail> {
-    let cases: [(&[&str], &str); 4] = [
+    let texts: [(&[&str], &str); 4] = [
         (
             &["stickylb", "--help"],
             "Usage: stickylb <COMMAND>\n\nCommands:\n  verify  Check that a plan",
@@ -158,7 +154,7 @@ fn help_names_the_commands_and_their_files(rt: HostRuntime) -> Result<(), Fail> 
             "Usage: stickylb verify <FILE>\n\nFor more information, try '--help'.\n",
         ),
     ];
-    for (words, part) in cases {
+    for (words, part) in texts {
         let error = read_words(rt.alloc(), words).err().ok_or("an error")?;
         let text = format!(in rt.alloc(); "{error}")?;
         assert!(rt; text.as_str().contains(part), "{text}");

@@ -1,5 +1,5 @@
 ghost use Rattle.std.specs.Prelude.{◌≡◌, true, Some};
-ghost use Rattle.command_socket_resolve.specs.Resolved.{change_in, command_fault, is_change, resolved};
+ghost use Rattle.command_socket.specs.Resolved.{change_in, command_fault, is_change, resolved};
 
 use command_socket_words::{Command, CommandFault, Shown};
 use lb_config::{Config, FindFault};
