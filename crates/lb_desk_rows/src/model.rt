@@ -9,7 +9,6 @@ use lb_desk_model::{
 use lb_types::{Moment, Name, ServerId};
 use pin_set::{KeyText, PinKey};
 use server_state::{AdminState, ServerSettings};
-use std::alloc::Global;
 use std::test::Fail;
 
 #[test]
@@ -84,15 +83,17 @@ fn what_is_made_gives_its_parts_back(rt: HostRuntime) -> Result<(), Fail> {
 #[test]
 fn events_are_equal_where_they_say_the_same(rt: HostRuntime) -> Result<(), Fail> {
     let [a, b] = [ServerId::new(0), ServerId::new(1)];
-    let first = plan_of_version(rt.alloc(), 1);
+    let first = Event::Install(Plan::new(1, Vec::new(rt.alloc()), Vec::new(rt.alloc())));
+    let same = Event::Install(Plan::new(1, Vec::new(rt.alloc()), Vec::new(rt.alloc())));
+    let later = Event::Install(Plan::new(2, Vec::new(rt.alloc()), Vec::new(rt.alloc())));
     let asked = asked_by(vec![in rt.alloc(); b, a]?);
     let turned = asked_by(vec![in rt.alloc(); a, b]?);
     let cases = [
         ("one server", Event::Open(a) == Event::Open(a), true),
         ("two servers", Event::Open(a) == Event::Open(b), false),
         ("two kinds", Event::Open(a) == Event::Close(a), false),
-        ("one plan", first == plan_of_version(rt.alloc(), 1), true),
-        ("two plans", first == plan_of_version(rt.alloc(), 2), false),
+        ("one plan", first == same, true),
+        ("two plans", first == later, false),
         ("one request", asked == asked, true),
         ("rules in two orders", asked == turned, false),
     ];
@@ -100,10 +101,6 @@ fn events_are_equal_where_they_say_the_same(rt: HostRuntime) -> Result<(), Fail>
         assert_eq!(rt; equal, wanted, "{events}");
     }
     Ok(())
-}
-
-fn plan_of_version(alloc: Global, version: u64) -> Event {
-    Event::Install(Plan::new(version, Vec::new(alloc), Vec::new(alloc)))
 }
 
 fn asked_by(rules: Vec<ServerId>) -> Event {
