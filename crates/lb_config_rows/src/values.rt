@@ -51,11 +51,10 @@ fn numbers_of(rt: &impl Abort, alloc: Global, text: &[u8]) -> Result<Vec<(u16, u
     Ok(numbers)
 }
 
-/// What a server is, but for the request of its check.
-fn shown(server: &ServerConfig) -> (&[u8], Ipv4Addr, u16, u32, ServerSettings) {
+/// What a server is, but for its name and the request of its check.
+fn shown(server: &ServerConfig) -> (Ipv4Addr, u16, u32, ServerSettings) {
     let endpoint = server.endpoint();
     (
-        server.name().as_bytes(),
         endpoint.address,
         endpoint.port,
         server.interval(),
@@ -83,13 +82,15 @@ fn a_server_has_its_line_and_the_defaults_of_the_manual(rt: HostRuntime) -> Resu
         backup: true,
         check: None,
     };
-    let wanted: [(&[u8], Ipv4Addr, u16, u32, ServerSettings); 2] = [
-        (b"a", Ipv4Addr::LOCALHOST, 8001, 2000, checked),
-        (b"b", Ipv4Addr::LOCALHOST, 8002, 2000, disabled),
+    let wanted: [(&[u8], (Ipv4Addr, u16, u32, ServerSettings)); 2] = [
+        (b"a", (Ipv4Addr::LOCALHOST, 8001, 2000, checked)),
+        (b"b", (Ipv4Addr::LOCALHOST, 8002, 2000, disabled)),
     ];
     let servers = servers_of(&rt, rt.alloc(), text)?;
     let is_so = servers.len() == wanted.len()
-        && servers.iter().zip(&wanted).all(|(server, wanted)| shown(server) == *wanted
+        && servers.iter().zip(&wanted).all(|(server, (name, wanted))| server.name().as_bytes()
+            == *name
+            && shown(server) == *wanted
             && server.check_rule().request().is_none());
     assert!(rt; is_so);
     Ok(())
