@@ -77,18 +77,27 @@ fn commands_have_the_places_of_their_names(rt: HostRuntime) -> Result<(), Fail> 
         ),
         (b"set server shop/a state drain", Err(NoSuchServer)),
     ];
-    for (text, cases) in [(SHOP, in_shop.as_slice()), (REVERSED, &reversed)] {
-        let config = config(&rt, rt.alloc(), text);
-        for (line, wanted) in cases {
-            let command = command(&rt, rt.alloc(), line)?;
-            let wanted_change = match (command, *wanted) {
-                (Command::Set(_, _), Ok(Resolved::Change(_, change))) => Some(Ok(change)),
-                (Command::Set(_, _), Err(fault)) => Some(Err(fault)),
-                _ => None,
-            };
-            let told = (look_up(&config, &command), change(&config, &command));
-            assert_eq!(rt; told, (*wanted, wanted_change), "{line:?}");
-        }
+    expect_resolved(&rt, rt.alloc(), SHOP, &in_shop)?;
+    expect_resolved(&rt, rt.alloc(), REVERSED, &reversed)
+}
+
+/// Each command is looked up so in the configuration; one that sets something has that change, or that fault.
+fn expect_resolved(
+    rt: &impl Abort,
+    alloc: Global,
+    text: &[u8],
+    cases: &[(&[u8], Result<Resolved, CommandFault>)],
+) -> Result<(), Fail> {
+    let config = config(rt, alloc, text);
+    for (line, wanted) in cases {
+        let command = command(rt, alloc, line)?;
+        let wanted_change = match (command, *wanted) {
+            (Command::Set(_, _), Ok(Resolved::Change(_, change))) => Some(Ok(change)),
+            (Command::Set(_, _), Err(fault)) => Some(Err(fault)),
+            _ => None,
+        };
+        let told = (look_up(&config, &command), change(&config, &command));
+        assert_eq!(rt; told, (*wanted, wanted_change), "{line:?}");
     }
     Ok(())
 }
@@ -142,9 +151,10 @@ fn a_number_out_of_its_range_is_read_and_refused_by_the_farm(rt: HostRuntime) ->
     ];
     for (line, setting) in cases {
         let command = command(&rt, rt.alloc(), line)?;
-        let wanted = Change { server: a, setting };
-        assert_eq!(rt; change(&config, &command), Some(Ok(wanted)), "{line:?}");
-        let refused = farm.apply(wanted).map_err(|fault| (fault, fault.number()));
+        let found = change(&config, &command);
+        assert_eq!(rt; found, Some(Ok(Change { server: a, setting })), "{line:?}");
+        let refused = farm.apply(Change { server: a, setting });
+        let refused = refused.map_err(|fault| (fault, fault.number()));
         let left = [told(&farm, a), told(&farm, b)];
         assert_eq!(rt; refused, Err((ChangeFault::OutOfRange, 11)), "{line:?}");
         assert_eq!(rt;
