@@ -41,22 +41,27 @@ fn change(config: &Config, command: &Command) -> Option<Result<Change, CommandFa
     }
 }
 
+const DRAIN: Setting = Setting::Admin(AdminState::Drain);
+
+/// The change of the backend's second server.
+fn at_second(setting: Setting) -> Change {
+    Change {
+        server: ServerId::new(1),
+        setting,
+    }
+}
+
 #[test]
 fn commands_have_the_places_of_their_names(rt: HostRuntime) -> Result<(), Fail> {
     use CommandFault::{NoBackend, NoSuchServer};
-    let weight = Change {
-        server: ServerId::new(1),
-        setting: Setting::Weight(257),
-    };
-    let drain = Change {
-        server: ServerId::new(1),
-        setting: Setting::Admin(AdminState::Drain),
-    };
     let in_shop: [(&[u8], Result<Resolved, CommandFault>); 13] = [
-        (b"set weight web/b 257", Ok(Resolved::Change(0, weight))),
+        (
+            b"set weight web/b 257",
+            Ok(Resolved::Change(0, at_second(Setting::Weight(257)))),
+        ),
         (
             b"set server web/b state drain",
-            Ok(Resolved::Change(0, drain)),
+            Ok(Resolved::Change(0, at_second(DRAIN))),
         ),
         (b"plan backend web", Ok(Resolved::Plan(0))),
         (b"plan backend shop", Ok(Resolved::Plan(1))),
@@ -73,7 +78,7 @@ fn commands_have_the_places_of_their_names(rt: HostRuntime) -> Result<(), Fail> 
     let reversed: [(&[u8], Result<Resolved, CommandFault>); 2] = [
         (
             b"set server web/a state drain",
-            Ok(Resolved::Change(1, drain)),
+            Ok(Resolved::Change(1, at_second(DRAIN))),
         ),
         (b"set server shop/a state drain", Err(NoSuchServer)),
     ];
