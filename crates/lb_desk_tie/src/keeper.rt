@@ -37,7 +37,7 @@ impl<E, B: Tables> Model for Keeper<E, B> {
         × (k.count ≡ length k.seat.me.0.history) };
 }
 
-impl<E, B: Tables> Keeper<E, B> {
+impl<E: Drop, B: Tables> Keeper<E, B> {
     pub(crate) fn of(number: u64, word: Word<E>, seat: KeeperSeat<E>) -> Self
         requires table { word.shared.table_id ≡ B.table_of number }
         requires one_word { word.shared.table_id.words ≡ 1 }

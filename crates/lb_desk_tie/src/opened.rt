@@ -28,7 +28,7 @@ impl<E> Model for Opened<E> {
         × (o.seat.me ≡ (keeper_view [] 0 [], [])) };
 }
 
-impl<E> Opened<E> {
+impl<E: Drop> Opened<E> {
     /// A new table. It takes one block of memory, of a few words.
     pub fn new(alloc: Global) -> Result<Self, AllocError> {
         let (word, seat) = Word::of_words(alloc, &[0], &())?;
