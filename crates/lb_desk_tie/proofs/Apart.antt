@@ -1,9 +1,9 @@
 -- No two receipts have one number.
-use Rattle.std.proofs.Common.{◌≡◌, ◌≢◌, ◌⊎◌, ⊎_elim, ℕ, zero, suc, ◌+◌, ◌≤◌, List, [], ◌∷◌, length, Some, refl, sym, ap, ◌∙◌, subst, arith}
+use Rattle.std.proofs.Common.{◌≡◌, ◌≢◌, ⊎_elim, ℕ, zero, suc, ◌+◌, ◌≤◌, List, [], ◌∷◌, length, Some, refl, sym, ap, ◌∙◌, subst, arith}
 use Rattle.std.specs.Prelude.{slice_get}
 use Rattle.std.proofs.lemmas.Bool.{cases_eq}
 use Rattle.std.proofs.lemmas.Bool.Decides.{nat_tests}
-use Rattle.lb_desk_tie.specs.Receipts.{total, one_if_same, one_if_below, times, times_in, Shares, IsAt, AreApart}
+use Rattle.lb_desk_tie.specs.Receipts.{total, one_if_same, one_if_below, times, times_in, Shares, AreApart}
 
 module _ {A : Type 0} where
   some_same : (x y : A) → Some x ≡ Some y → x ≡ y

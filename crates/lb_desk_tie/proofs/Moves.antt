@@ -1,19 +1,22 @@
 -- Each step keeps the rule, and tells what it says.
-use Rattle.std.proofs.Common.{◌≡◌, ◌≢◌, ◌⊎◌, ⊎_elim, ℕ, zero, suc, ◌+◌, ◌<◌, ◌≤◌, List, [], ◌∷◌, ◌++◌, length, set, Bool, true, false, true≢false, refl, sym, ap, ◌∙◌, subst, arith, length-append, eqb}
+use Rattle.std.proofs.Common.{◌≡◌, ◌≢◌, ⊎_elim, ℕ, zero, suc, ◌+◌, ◌≤◌, List, [], ◌∷◌, ◌++◌, length, set, Bool, true, false, true≢false, refl, sym, ap, ◌∙◌, subst, arith, length-append, eqb}
 use Rattle.std.proofs.lemmas.Bool.Decides.{nat_tests}
-use Rattle.std.specs.Prelude.{slice_index, slice_set, ◌==◌}
+use Rattle.std.specs.Prelude.{slice_index, slice_set, ◌==◌, ◌&&◌, nat_le}
 use mathlib.Core.Option.{some, none, some-ne-none, some-injective}
 use lib.ListN.{get_elem?}
 use prog.Atomic.{either}
-use Rattle.atomic_table.specs.Table.{State, Me, Step, step, Act, keeps, Allows, Splits, Joins, opening}
+use Rattle.atomic_table.specs.Table.{Me, step, keeps, Allows, Splits, Joins, opening}
 use Rattle.atomic_table.proofs.Lists.{at_set, at_snoc, set_again, exchanged}
 use Rattle.lb_desk_tie.specs.declared.view.View.{View}
-use Rattle.lb_desk_tie.specs.Receipts.{Each, total, one_if_same, one_if_below, StandsIn, times, times_in, count_in, Shares}
-use Rattle.lb_desk_tie.specs.Rule.{keeper_view, pass_view, spent_view, list_of, one_pass_more, in_hand, hand_back, first_pass, counted_view, Counts, Settles, IsSound, Fits, Kept}
-use Rattle.lb_desk_tie.proofs.Sums.{total-append, total-set, total_of_none, total_alone, Each-append, length-push, one_if_below-next, times-push, sounds_longer, sound_push, sounds_stand, sounds_rise}
+use Rattle.lb_desk_tie.specs.Receipts.{Each, total, one_if_same, one_if_below, rises, times, times_in, count_in}
+use Rattle.lb_desk_tie.specs.Rule.{keeper_view, pass_view, spent_view, list_of, one_pass_more, in_hand, hand_back, first_pass, counted_view, Counts, Settles, IsSound, Fits, Kept, next_from}
+use Rattle.lb_desk_tie.proofs.Sums.{total-append, total-set, total_of_none, total_alone, Each-append, length-push, one_if_below-next, times-push, sounds_longer, sound_push, sounds_stand, sounds_rise, next_from-push, rises_from-push}
 
 off : false ≡ true → ⊥
 off e = true≢false (sym e)
+
+exchanged_same : (found old new : ℕ) → found ≡ old → either (eqb found old) new found ≡ new
+exchanged_same found old new same = exchanged found old new (λ n. n ≡ new) (λ _. refl) (λ apart. absurd (apart same))
 
 module _ {E : Type 0} where
   fits_set : (seat : ℕ) (history : List E) (passes : ℕ) (views : List (View E)) (by : ℕ) (w : View E)
@@ -114,9 +117,6 @@ module _ {E : Type 0} where
             (λ (x : pass_view list ≡ u). subst (Fits kept.seat kept.history kept.passes j) x (pass_fits kept.seat kept.history kept.passes j list was.sound.0))
             (at_snoc (set s.views id left) (pass_view list) u j e);
       }
-
-  exchanged_same : (found old new : ℕ) → found ≡ old → either (eqb found old) new found ≡ new
-  exchanged_same found old new same = exchanged found old new (λ n. n ≡ new) (λ _. refl) (λ apart. absurd (apart same))
 
   counts : (slots id : ℕ) (history : List E) (passes : ℕ) (list : List (ℕ × E)) (lists : List (List (ℕ × E))) (number : ℕ) (entry : E) → number ≡ length history
       → Allows Kept slots id (keeper_view history passes (list ∷ lists), []) 0 (λ n. either (n == number) (number + 1) n) (Counts (step slots 0 number (number + 1) (some entry)) (keeper_view history passes (list ∷ lists), []))
@@ -242,5 +242,16 @@ module _ {E : Type 0} where
 
   -- what taking a pass into the hand gives
   pub handed_is : (me : Me E (View E)) (w : View E) (history : List E) (passes : ℕ) (lists : List (List (ℕ × E))) (list : List (ℕ × E)) → me ≡ (keeper_view history passes lists, []) → w ≡ pass_view list
-      → (in_hand me.0 w, me.1) ≡ (keeper_view history passes (list ∷ lists), [])
+      → ◌≡◌ {A = Me E (View E)} (in_hand me.0 w, me.1) (keeper_view history passes (list ∷ lists), [])
   handed_is me w history passes lists list is pass = λ i. (in_hand (is i).0 (pass i), (is i).1)
+
+  -- the pass with a receipt more still knows its next number, and whether its numbers rise
+  pub told_is : (views : List (View E)) (list : List (ℕ × E)) (number : ℕ) (entry : E) (next : ℕ) (rising : Bool)
+      → views ≡ pass_view (list ++ (number, entry) ∷ []) ∷ [] → next ≡ next_from 0 list → rising ≡ rises list
+      → (views ≡ pass_view (list_of views) ∷ []) × (number + 1 ≡ next_from 0 (list_of views)) × (rising && nat_le next number ≡ rises (list_of views))
+  told_is views list number entry next rising told next_is rising_is =
+      let same : list_of views ≡ list ++ (number, entry) ∷ [] = ap list_of told in (
+        told ∙ ap (λ l. pass_view l ∷ []) (sym same),
+        sym (next_from-push 0 list (number, entry)) ∙ ap (next_from 0) (sym same),
+        (λ i. rising_is i && nat_le (next_is i) number) ∙ sym (rises_from-push 0 list (number, entry)) ∙ ap rises (sym same),
+      )

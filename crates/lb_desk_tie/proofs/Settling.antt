@@ -1,8 +1,8 @@
 -- The passes come back, the last one first.
-use Rattle.std.proofs.Common.{◌≡◌, ℕ, suc, List, [], ◌∷◌, ◌++◌, length, refl, sym, ap, ◌∙◌, subst, append_assoc}
+use Rattle.std.proofs.Common.{◌≡◌, ℕ, suc, List, [], ◌∷◌, ◌++◌, length, refl, sym, ap, ◌∙◌, subst, append_assoc, arith}
 use Rattle.atomic_table.specs.Table.{Me}
 use Rattle.lb_desk_tie.specs.declared.view.View.{View}
-use Rattle.lb_desk_tie.specs.Receipts.{PassView, Each, receipts_of, AreOf}
+use Rattle.lb_desk_tie.specs.Receipts.{PassView, Each, receipts_of, AreOf, Shares}
 use Rattle.lb_desk_tie.specs.Rule.{keeper_view}
 
 module _ {A : Type 0} where
@@ -43,3 +43,22 @@ module _ {E : Type 0} where
   still_keeper me now history passes list is took =
       let back = sym (ap (λ m. m.0.lists) took) in
       took ∙ (λ i. (keeper_view (is i).0.history (is i).0.passes (back i), []))
+
+  -- the keeper's view says what it says of itself
+  pub knows_itself : (me : Me E (View E)) (history : List E) (passes : ℕ) → me ≡ (keeper_view history passes me.0.lists, [])
+      → me ≡ (keeper_view me.0.history me.0.passes me.0.lists, [])
+  knows_itself me history passes is =
+      let back = sym is in
+      is ∙ (λ i. (keeper_view (back i).0.history (back i).0.passes me.0.lists, []))
+
+  -- with no pass left, all lists are in hand
+  pub all_in_hand : (left : List (PassView E)) (lists whole : List (List (ℕ × E))) → length left ≡ 0 → receipts_of left ++ lists ≡ whole → lists ≡ whole
+  all_in_hand [] lists whole none is = is
+  all_in_hand (x ∷ xs) lists whole none is = absurd (omega arith)
+
+  pub as_many : (lists : List (List (ℕ × E))) (passes : List (PassView E)) (count : ℕ) → lists ≡ receipts_of passes → length passes ≡ count → length lists ≡ count
+  as_many lists passes count is counted = ap (λ l. length l) is ∙ length-receipts_of passes ∙ counted
+
+  pub share_as : (history now : List E) (lists whole : List (List (ℕ × E))) → history ≡ now → lists ≡ whole → Shares history lists → Shares now whole
+  share_as history now lists whole history_is lists_is share =
+      subst (λ (x : List E × List (List (ℕ × E))). Shares x.0 x.1) (λ i. (history_is i, lists_is i)) share

@@ -1,11 +1,11 @@
 -- Sums over lists, facts on each element, and lists of receipts that grow.
-use Rattle.std.proofs.Common.{◌≡◌, ◌≢◌, ℕ, zero, suc, ◌+◌, ◌<◌, ◌≤◌, List, [], ◌∷◌, ◌++◌, length, set, Some, Bool, true, false, ◌&&◌, refl, sym, ap, ◌∙◌, subst, arith, length-append}
+use Rattle.std.proofs.Common.{◌≡◌, ℕ, zero, suc, ◌+◌, ◌<◌, ◌≤◌, List, [], ◌∷◌, ◌++◌, length, set, Some, Bool, true, false, ◌&&◌, refl, sym, ap, ◌∙◌, subst, arith, length-append}
 use Rattle.std.specs.Prelude.{slice_get, nat_le}
 use Rattle.std.proofs.lemmas.Bool.{and_from, le-leb}
 use Rattle.std.proofs.lemmas.Bool.Decides.{nat_tests}
 use mathlib.Core.Option.{some, some-ne-none, some-injective}
 use lib.ListN.{get_elem?}
-use Rattle.lb_desk_tie.specs.Receipts.{Each, total, one_if_same, one_if_below, StandsIn, rises_from, rises, all_rise, times, times_in, count_in}
+use Rattle.lb_desk_tie.specs.Receipts.{Each, total, one_if_same, one_if_below, StandsIn, rises_from, rises, all_rise, times}
 use Rattle.lb_desk_tie.specs.Rule.{IsSound, next_from}
 
 module _ {A : Type 0} where

@@ -1,6 +1,6 @@
 -- Receipts, and the history that they stand in. A history is a list of entries, numbered from 0. A receipt is a number
 -- and an entry, and a pass has a list of them, in the order of its calls.
-use Rattle.std.specs.Prelude.{◌≡◌, ℕ, ◌+◌, ◌^◌, ◌<◌, Bool, true, ◌&&◌, ◌==◌, nat_lt, nat_le, List, [], ◌∷◌, ◌++◌, length, Some, slice_get, if◌then◌else◌}
+use Rattle.std.specs.Prelude.{◌≡◌, ℕ, ◌+◌, Bool, true, ◌&&◌, ◌==◌, nat_lt, nat_le, List, [], ◌∷◌, ◌++◌, length, Some, slice_get, if◌then◌else◌}
 
 -- P of each element
 abbrev pub Each : {A : Type 0} → (A → Type 0) → List A → Type 0

@@ -1,5 +1,4 @@
-use Rattle.std.proofs.Common.{ap, ◌∙◌, arith}
-use Rattle.lb_desk_tie.specs.Rule.{one_pass_more}
+use Rattle.std.proofs.Common.{ap, arith}
 use Rattle.lb_desk_tie.proofs.Moves.{enters}
 use Rattle.lb_desk_tie.proofs.steps.admit.Goals as goal
 

@@ -1,4 +1,4 @@
-use Rattle.std.proofs.Common.{ap, ◌∙◌, arith}
+use Rattle.std.proofs.Common.{arith}
 use Rattle.lb_desk_tie.proofs.Moves.{settles_as}
 use Rattle.lb_desk_tie.proofs.steps.settle.Goals as goal
 

@@ -1,5 +1,5 @@
-use Rattle.std.proofs.Common.{◌≡◌, [], ◌∷◌, ◌++◌, ap, sym, ◌∙◌, arith}
-use Rattle.lb_desk_tie.specs.Rule.{keeper_view, pass_view, list_of, hand_back, first_pass}
+use Rattle.std.proofs.Common.{[], ◌∷◌, ◌++◌, ap, ◌∙◌, arith}
+use Rattle.lb_desk_tie.specs.Rule.{pass_view, list_of, hand_back, first_pass}
 use Rattle.lb_desk_tie.proofs.Moves.{joins, handed_is, pass_is, counts_as, counted_is, cuts_as}
 use Rattle.lb_desk_tie.proofs.steps.tell.Goals as goal
 
