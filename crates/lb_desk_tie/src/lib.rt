@@ -6,8 +6,8 @@
 //! out the history.
 //!
 //! Promised: `Keeper::record` adds the entry to the history and its receipt to the pass, and `Keeper::settle`'s `share`.
-//! No history, entry or receipt exists at run time. Start at `Keeper`; the words are in `specs/Receipts.antt`. For the
-//! crates of the desk alone.
+//! No history, entry or receipt exists at run time. Start at `Keeper`; the words are in `specs/Receipts.antt`. Private to
+//! `lb_desk_shared`, the desk of many threads, which is to come.
 #![tactic(auto)]
 
 mod keeper;
