@@ -1,0 +1,25 @@
+//! Receipts: every call that a journal records has a number, and who called can show at the end that all of them stand
+//! in one history, each at its own number.
+//!
+//! A `Keeper` lies beside a journal, under one lock, and knows the whole history as ghost data. Each caller has a `Pass`,
+//! which keeps the receipts of its calls. `Keeper::settle` takes all passes back, and shows that their receipts share
+//! out the history.
+//!
+//! Promised: `Keeper::record` adds the entry to the history and its receipt to the pass, and `Keeper::settle`'s `share`.
+//! No history, entry or receipt exists at run time. Start at `Keeper`; the words are in `specs/Receipts.antt`. Private to
+//! `lb_desk_shared`, the desk of many threads, which is to come.
+#![tactic(auto)]
+
+mod keeper;
+mod laws;
+mod opened;
+mod pass;
+mod steps;
+mod tables;
+mod view;
+
+pub use keeper::Keeper;
+pub use laws::no_two_share_a_number;
+pub use opened::Opened;
+pub use pass::Pass;
+pub use tables::Tables;

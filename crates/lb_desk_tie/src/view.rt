@@ -1,0 +1,80 @@
+//! The table of one word under the rule, and what each of its steps does.
+use atomic_table::{Join, Play, Seat, Split, Table, TableRule};
+use std::alloc::Global;
+use std::collections::LinkedList;
+
+/// What a seat at the table knows. No value of it is made.
+///
+/// The keeper knows the history and how many passes there are, and the lists of receipts that it has in hand. A pass knows
+/// one list, its own.
+pub struct View<E> {
+    pub keeps: bool,
+    pub history: LinkedList<E>,
+    pub passes: u64,
+    pub lists: LinkedList<LinkedList<(u64, E)>>,
+}
+
+/// The word is the length of the history.
+pub struct Law;
+
+impl<E> TableRule<E, View<E>, ()> for Law {
+    ghost use Rattle.std.specs.Prelude.{[]};
+    ghost use Rattle.lb_desk_tie.specs.Rule.{Kept, keeper_view};
+
+    ghost holds = { λ _ state. Kept state };
+
+    ghost first = { λ _. keeper_view [] 0 [] };
+}
+
+/// One pass more.
+pub(crate) struct Admit;
+
+impl<E> Split<View<E>> for Admit {
+    ghost use Rattle.std.specs.Prelude.{[]};
+    ghost use Rattle.lb_desk_tie.specs.Rule.{one_pass_more, pass_view};
+
+    ghost left = { one_pass_more };
+
+    ghost right = { λ _. pass_view [] };
+}
+
+/// The list of a pass goes into the keeper's hand, and back.
+pub(crate) struct Hand;
+
+impl<E> Join<View<E>> for Hand {
+    ghost use Rattle.lb_desk_tie.specs.Rule.{in_hand, spent_view};
+
+    ghost both = { in_hand };
+
+    ghost spent = { spent_view };
+}
+
+impl<E> Split<View<E>> for Hand {
+    ghost use Rattle.lb_desk_tie.specs.Rule.{hand_back, first_pass};
+
+    ghost left = { hand_back };
+
+    ghost right = { first_pass };
+}
+
+/// The history gets an entry, and the first list in hand its receipt.
+pub(crate) struct Count;
+
+impl<E> Play<E, View<E>> for Count {
+    ghost use Rattle.lb_desk_tie.specs.Rule.{Counts};
+
+    ghost then = { Counts };
+}
+
+/// The keeper looks at the history with all lists in hand.
+pub(crate) struct Settle;
+
+impl<E> Play<E, View<E>> for Settle {
+    ghost use Rattle.lb_desk_tie.specs.Rule.{Settles};
+
+    ghost then = { Settles };
+}
+
+pub(crate) type Word<E> = Table<E, View<E>, (), Law, Global>;
+
+pub(crate) type KeeperSeat<E> = Seat<E, View<E>>;
