@@ -18,3 +18,6 @@ pub use cert_check_law::{
 };
 pub use fault::CheckFault;
 pub use verdict::check;
+
+#[cfg(test)]
+mod tests;

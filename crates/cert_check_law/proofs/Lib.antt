@@ -1,6 +1,5 @@
 pub mod Agreeing
 pub mod Duality
-pub mod Room
 pub mod Sums
 pub mod Views
 pub mod Weights

@@ -12,3 +12,6 @@ mod probing;
 
 pub use prober::Probe;
 pub use probing::probe;
+
+#[cfg(test)]
+mod tests;

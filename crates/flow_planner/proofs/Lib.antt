@@ -1,5 +1,2 @@
-pub mod BlankSteps
-pub mod FillSteps
-pub mod RowSteps
 pub mod ServerLists
 pub mod Writing

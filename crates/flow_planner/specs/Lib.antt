@@ -1,3 +1,1 @@
-pub mod Blanks
-pub mod Fillings
 pub mod Plannings

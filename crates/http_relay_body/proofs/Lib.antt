@@ -1,5 +1,1 @@
-pub mod Handed
 pub mod Inputs
-pub mod Lines
-pub mod Moves
-pub mod Parts

@@ -15,3 +15,6 @@ pub use fault::{FaultCounts, WireFault};
 pub use scripted::{Script, ScriptedWire};
 pub use socket::SocketWire;
 pub use wire::{Wire, write_all};
+
+#[cfg(test)]
+mod tests;

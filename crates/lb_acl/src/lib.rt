@@ -26,3 +26,6 @@ pub use network::Network;
 pub use path::path_of;
 pub use rules::{PinCost, UseServer, designated, pin_cost};
 pub use text::Text;
+
+#[cfg(test)]
+mod tests;

@@ -1,2 +1,4 @@
+pub mod Keywords
 pub mod Lines
-pub mod StickLines
+pub mod Sections
+pub mod SettingLines

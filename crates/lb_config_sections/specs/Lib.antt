@@ -1,10 +1,7 @@
 pub mod Causes
-pub mod Names
-pub mod References
-pub mod SectionNamesView
+pub mod DraftView
+pub mod Drafts
 pub mod SectionView
-pub mod SectionsSoFar
-pub mod SectionsSoFarView
 pub mod SectionsView
 pub mod TextSections
 pub mod Warnings

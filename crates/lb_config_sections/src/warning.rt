@@ -1,6 +1,7 @@
 ghost use Rattle.std.specs.Prelude.{◌≡◌, ◌++◌, IfOk, OnOk};
 ghost use Rattle.lb_config_sections.specs.Warnings.{second_text, ignored_text, warning_of};
 
+use lb_acl::Text;
 use lb_config_lines::IgnoredWords;
 use lb_config_words::{Line, Word};
 use std::alloc::{AllocError, Global};
@@ -11,7 +12,7 @@ pub struct Warning {
     /// The number of the line, counted from 1.
     pub line: u32,
     /// Its first word, or its first two with a space between them.
-    pub words: Word,
+    pub words: Text,
 }
 
 impl Warning {
@@ -28,7 +29,7 @@ impl Warning {
 
 /// The words that the warning names.
 #[tactic(auto, unfolding(crate::specs::Warnings::ignored_text))]
-fn ignored_text(alloc: Global, which: IgnoredWords, words: &[Word]) -> Result<Word, AllocError>
+fn ignored_text(alloc: Global, which: IgnoredWords, words: &[Word]) -> Result<Text, AllocError>
     ensures { IfOk result (λ text. text ≡ ignored_text which words.now) }
 {
     let mut text = Vec::new(alloc);
@@ -38,7 +39,7 @@ fn ignored_text(alloc: Global, which: IgnoredWords, words: &[Word]) -> Result<Wo
             push_second(&mut text, rest)?;
         }
     }
-    Ok(Word::new(text))
+    Ok(Text::new(text))
 }
 
 /// Puts a space and the next word behind the text, if there is one.

@@ -1,3 +1,1 @@
 pub mod Further
-pub mod Mapped
-pub mod SamePins

@@ -8,3 +8,6 @@
 mod counted;
 
 pub use counted::Counted;
+
+#[cfg(test)]
+mod tests;

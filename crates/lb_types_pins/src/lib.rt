@@ -8,3 +8,6 @@
 mod kind;
 
 pub use kind::{Group, PinKind, Row};
+
+#[cfg(test)]
+mod tests;

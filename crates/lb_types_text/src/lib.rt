@@ -9,3 +9,6 @@ mod parts;
 
 pub use numbers::{Digits, numeral};
 pub use parts::{Parts, cut};
+
+#[cfg(test)]
+mod tests;

@@ -2,3 +2,4 @@ pub mod Order
 pub mod Sheets
 pub mod Leftovers
 pub mod Tally
+pub mod SmallPlans

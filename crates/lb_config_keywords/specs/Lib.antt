@@ -1,4 +1,0 @@
-pub mod Keywords
-pub mod SecondWords
-pub mod Sections
-pub mod SettingLines

@@ -1,5 +1,0 @@
-pub mod Options
-pub mod OptionsView
-pub mod ServerLines
-pub mod StickTables
-pub mod TableViews

@@ -1,0 +1,2 @@
+pub mod StickTables
+pub mod TableViews
