@@ -2,8 +2,10 @@ pub mod Accepted
 pub mod Apart
 pub mod Chosen
 pub mod Installs
+pub mod LastUses
 pub mod Lawful
 pub mod Parts
 pub mod SameViews
+pub mod SeenServers
 pub mod Versions
 pub mod Worlds

@@ -3,6 +3,8 @@ ghost use Rattle.lb_desk_law.specs.Headline.{KeepsPins, IsLawfulThen, IsBestThen
 ghost use Rattle.lb_desk_law.specs.Worlds.{AcceptedAreNeverBad};
 ghost use Rattle.lb_desk_law.specs.LawfulViews.{ViewsAreLawful};
 ghost use Rattle.lb_desk_law.specs.Parts.{PartsAreHistories};
+ghost use Rattle.lb_desk_law.specs.Entries.{PinsAreInOrderOfUse};
+ghost use Rattle.lb_desk_law.specs.SeenServers.{SettingsAreSeen, ResultsAreSeen, ServersAreSeen, ConnectionsAreSeen};
 ghost use Rattle.lb_desk_law.specs.Examples.{RoundOfTwo, RoundOfFewer, LeastOfTwo, FirstOfTwo};
 
 /// Of each install of each history: it is stale exactly where the view has changed, and then changes nothing; else it is
@@ -39,4 +41,17 @@ pub fn worked_picks()
     ensures changed_weights { RoundOfFewer }
     ensures least { LeastOfTwo }
     ensures first { FirstOfTwo }
+{}
+
+/// In every history of a backend no pin was used before one that stands ahead of it.
+pub fn pins_are_in_order_of_use()
+    ensures { PinsAreInOrderOfUse }
+{}
+
+/// Seeing a server after a change, a check's result or a connection is changing what is seen of it.
+pub fn changes_are_seen()
+    ensures settings { SettingsAreSeen }
+    ensures results { ResultsAreSeen }
+    ensures servers { ServersAreSeen }
+    ensures connections { ConnectionsAreSeen }
 {}

@@ -9,6 +9,6 @@
 mod laws;
 
 pub use laws::{
-    accepted_plans_are_never_bad, installs_are_stale_or_best, parts_of_a_history, views_are_lawful,
-    worked_picks,
+    accepted_plans_are_never_bad, changes_are_seen, installs_are_stale_or_best, parts_of_a_history,
+    pins_are_in_order_of_use, views_are_lawful, worked_picks,
 };

@@ -4,7 +4,9 @@ pub mod Histories
 pub mod Installs
 pub mod Picks
 pub mod RefusalNumbers
-pub mod Serves
+pub mod Seen
 pub mod Servers
+pub mod Serves
 pub mod States
 pub mod Steps
+pub mod Worn
