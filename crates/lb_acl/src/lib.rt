@@ -26,6 +26,3 @@ pub use network::Network;
 pub use path::path_of;
 pub use rules::{PinCost, UseServer, designated, pin_cost};
 pub use text::Text;
-
-#[cfg(test)]
-mod tests;

@@ -1,14 +1,12 @@
 ghost use Rattle.lb_config_arguments.specs.Faults.{Gives};
 ghost use Rattle.lb_config_lines.specs.Lines.{timeout_at, option_setting_at, other_option, option_at, stats_behind, stats_at, common_statement_at, other_statement, common_line_at};
 
-use crate::http_check::read_http_check;
-use crate::ignored::{is_ignored, is_left_out};
-use crate::keyword::CommonKeyword;
-use crate::second_word::{OptionName, is_ignored_option, is_ignored_timeout};
-use crate::setting_lines::{read_bare_end, read_last_time, read_tuning};
-use crate::stats_socket::read_stats_socket;
-use crate::{IgnoredWords, Section, Setting, Statement, Timeout};
+use crate::{IgnoredWords, Setting, Statement};
 use lb_config_arguments::{Fault, LineError, Words, is};
+use lb_config_keywords::{
+    CommonKeyword, OptionName, Section, Timeout, is_ignored, is_ignored_option, is_ignored_timeout,
+    is_left_out, read_bare_end, read_http_check, read_last_time, read_stats_socket, read_tuning,
+};
 
 /// A line whose first word is none of a proxy's own.
 #[tactic(auto, unfolding(crate::specs::Lines::common_line_at))]

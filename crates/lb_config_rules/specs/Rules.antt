@@ -21,7 +21,7 @@ use Rattle.lb_config_conditions.specs.declared.unresolved.UnresolvedAcl.{Unresol
 use Rattle.lb_config_conditions.specs.declared.unresolved.UnresolvedAcl.TheVariants.{Named, Anonymous}
 use Rattle.lb_config_conditions.specs.declared.unresolved.UnresolvedTerm.{UnresolvedTerm}
 use Rattle.lb_config_sections.specs.declared.config_section.NumberedSetting.{NumberedSetting}
-use Rattle.lb_config_table.specs.TableViews.{StickTableView}
+use Rattle.lb_config_parameters.specs.TableViews.{StickTableView}
 use Rattle.lb_config_rules.specs.declared.backend_choice.BackendChoice.{BackendChoice}
 use Rattle.lb_config_rules.specs.Parts.{all_in, bind_in, parts_of}
 use Rattle.lb_config_rules.specs.PartsView.{PartsView}

@@ -3,9 +3,9 @@ ghost use Rattle.lb_config_values.specs.Servers.{admin_of, settings_of, server_o
 ghost use Rattle.lb_config_values.specs.ServerView.{settings_view};
 
 use crate::SharedCheck;
-use check_rule::CheckRule;
+use check_workers_rule::CheckRule;
 use lb_config_arguments::Endpoint;
-use lb_config_server::{ServerLine, ServerOptions};
+use lb_config_parameters::{ServerLine, ServerOptions};
 use lb_types::Name;
 use server_state::{AdminState, CheckSettings, ServerSettings};
 use std::alloc::{AllocError, Global};

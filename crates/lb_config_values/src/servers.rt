@@ -1,13 +1,13 @@
 ghost use Rattle.std.specs.Prelude.{◌≡◌, ◌≤◌, ◌++◌, IfOk, OnOk};
 ghost use Rattle.std.specs.Option.{option_to_list};
-ghost use Rattle.lb_config_server.specs.Options.{no_options};
+ghost use Rattle.lb_config_parameters.specs.Options.{no_options};
 ghost use Rattle.lb_config_values.specs.Servers.{default_options, server_in, servers_behind};
 
 use crate::server_options::{options_over, with_default};
 use crate::{ServerConfig, SharedCheck};
 use lb_config_lines::Setting;
+use lb_config_parameters::ServerOptions;
 use lb_config_sections::NumberedSetting;
-use lb_config_server::ServerOptions;
 use std::alloc::{AllocError, Global};
 
 /// What the `default-server` lines of a `defaults` section say of the servers behind it.

@@ -7,7 +7,7 @@ use Rattle.pin_set.specs.Rows.{Agrees, score_of}
 use Rattle.pin_set.specs.Views.{kinds_of}
 use Rattle.dual_cert_plan.specs.Plans.{PlanParts}
 use Rattle.dual_cert_plan.specs.Sheets.{SheetParts, IsSheet}
-use Rattle.pin_groups_sheet.specs.Sheets.{StandsFor}
+use Rattle.cert_check_law.specs.Sheets.{StandsFor}
 use Rattle.cert_check.specs.declared.fault.CheckFault.{CheckFault}
 use Rattle.cert_check.specs.Verdict.{verdict}
 use Rattle.lb_desk_model.specs.declared.table_pin.TablePin.{TablePin}

@@ -15,6 +15,3 @@ pub use moment::Moment;
 pub use name::{Name, NameFault};
 pub use server_id::{Place, ServerId};
 pub use server_set::ServerSet;
-
-#[cfg(test)]
-mod tests;

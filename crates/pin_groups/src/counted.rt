@@ -4,7 +4,7 @@ ghost use Rattle.lb_types_pins.specs.Kinds.{same_kind};
 ghost use Rattle.dual_cert_plan.specs.Sheets.{SheetParts, IsSheet};
 ghost use Rattle.pin_set.specs.Rows.{count_in};
 ghost use Rattle.pin_set.specs.Views.{ViewParts};
-ghost use Rattle.pin_groups_sheet.specs.Sheets.{StandsFor};
+ghost use Rattle.cert_check_law.specs.Sheets.{StandsFor};
 ghost use Rattle.pin_groups.specs.Counts.{counted_kind, HasCounts, AreOfSomeView, OneSheetForAView};
 ghost use Rattle.pin_groups.specs.Rising.{AreRising};
 

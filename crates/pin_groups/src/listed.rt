@@ -1,5 +1,5 @@
 ghost use Rattle.std.specs.Prelude.{◌≡◌, ◌≤◌, ◌<◌, length, IfOk};
-ghost use Rattle.pin_groups_sheet.specs.Sheets.{listed_server, listed_servers};
+ghost use Rattle.cert_check_law.specs.Sheets.{listed_server, listed_servers};
 
 use dual_cert_plan::Server;
 use lb_types::{ServerId, ServerSet};

@@ -11,6 +11,3 @@ mod laws;
 pub use flip::Flip;
 pub use health::Health;
 pub use laws::each_health_has_its_results;
-
-#[cfg(test)]
-mod tests;
