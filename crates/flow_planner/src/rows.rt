@@ -1,4 +1,5 @@
 ghost use Rattle.std.specs.Prelude.{◌≡◌, ◌++◌, ◌*◌, ◌<◌, length, IfOk, OnOk};
+ghost use Rattle.flow_planner_net.specs.declared.network.TheConstants.{MOST_OPTIONS};
 ghost use Rattle.flow_planner_net.specs.Networks.{IsNetwork, options, size, place_of};
 ghost use Rattle.flow_planner_net.specs.States.{used_of};
 ghost use Rattle.flow_planner_net.specs.RowLists.{group_rows, rows_of};
@@ -56,7 +57,7 @@ fn add_rows(
 }
 
 fn place_of(option: usize) -> Place
-    requires { option < 129 }
+    requires { option < MOST_OPTIONS }
     ensures { result ≡ place_of option }
 {
     if option == 0 {

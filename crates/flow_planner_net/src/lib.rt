@@ -11,4 +11,4 @@ mod laws;
 mod network;
 
 pub use laws::{states_are_shown, sums_over_rows};
-pub use network::Network;
+pub use network::{MOST_OPTIONS, MOST_UNPLACED_COST, Network};

@@ -3,17 +3,19 @@ use Rattle.std.specs.Prelude.{◌≡◌, ℕ, ◌≤◌, ◌<◌, List, ◌++◌
 use Rattle.std.specs.List.{flat_map, AllByRecursion}
 use Rattle.httparse.specs.Ascii.{crlf_bytes}
 use Rattle.httparse.specs.Grammar.{ChunkLine, IsChunkLine, print_chunk_line, chunk_size, Field, IsField, LineEnd, print_section}
+use Rattle.http_relay_body.specs.declared.chunks.trailer.TheConstants.{MOST_FIELDS, MOST_TRAILER_BYTES}
+use Rattle.http_relay_body.specs.declared.chunks.size_line.TheConstants.{MOST_LINE_BYTES}
 
 -- a size line within the limit
 pub record IsSizeLine (line : ChunkLine) : Type 0 where
   pub form : IsChunkLine line
-  pub short : length (print_chunk_line line) ≤ 256
+  pub short : length (print_chunk_line line) ≤ MOST_LINE_BYTES
 
 -- a trailer within the limits
 pub record IsTrailer (fields : List Field) (end : LineEnd) : Type 0 where
   pub form : All IsField fields
-  pub few : length fields ≤ 100
-  pub short : length (print_section fields end) ≤ 8192
+  pub few : length fields ≤ MOST_FIELDS
+  pub short : length (print_section fields end) ≤ MOST_TRAILER_BYTES
 
 -- a chunk: its size line, and its data
 pub record Chunk : Type 0 where

@@ -11,7 +11,7 @@ mod trailer;
 use crate::at_hand::AtHand;
 use crate::chunks::data::pass_data;
 use crate::chunks::size_line::pass_size_line;
-use crate::chunks::trailer::{MOST_BYTES, pass_trailer};
+use crate::chunks::trailer::{MOST_TRAILER_BYTES, pass_trailer};
 use crate::fault::BodyFault;
 use http_relay_wire::Wire;
 
@@ -23,7 +23,7 @@ pub(crate) fn pass_chunks<C: Wire, S: Wire>(
     server: &mut S,
     room: &mut [u8],
 ) -> Result<(), BodyFault>
-    requires { MOST_BYTES ≤ length room.old }
+    requires { MOST_TRAILER_BYTES ≤ length room.old }
     ensures moved { Moved (λ _ text. IsChunked text) at_hand.old at_hand.new (C.reading client.old) (C.reading client.new)
         (S.written server.old) (S.written server.new) result }
     ensures client { C.faults client.new ≡ client_faults result (C.faults client.old) }
@@ -45,7 +45,7 @@ fn pass_chunk<C: Wire, S: Wire>(
     server: &mut S,
     room: &mut [u8],
 ) -> Result<bool, BodyFault>
-    requires { MOST_BYTES ≤ length room.old }
+    requires { MOST_TRAILER_BYTES ≤ length room.old }
     ensures moved { Moved IsChunkText at_hand.old at_hand.new (C.reading client.old) (C.reading client.new)
         (S.written server.old) (S.written server.new) result }
     ensures fewer { IfOk result (λ is_last. is_last ≡ false → length at_hand.new + (C.reading client.new).left

@@ -32,6 +32,7 @@ use Rattle.lb_config_keywords.specs.SettingLines.{mode_at, balance_at, bind_at, 
 use Rattle.lb_config_lines.specs.StickLines.{end_or_one_of, stick_at}
 use Rattle.lb_config_keywords.specs.SecondWords.{timeout_of, timeout_stands_in, is_ignored_timeout, option_of, option_stands_in, is_ignored_option}
 use Rattle.lb_config_parameters.specs.StickTables.{stick_table_at}
+use Rattle.lb_config_lines.specs.declared.common_line.TheConstants.{MAX_JOURNAL, MAX_RELAYS, MAX_TRIES}
 
 -- what stands behind a keyword of requests
 unfoldable pub proxy_setting_at : ProxyKeyword → Rest → Result Setting Fault
@@ -99,9 +100,9 @@ unfoldable pub common_statement_at : CommonKeyword → Section → Rest → Resu
 common_statement_at Common.Timeout section rest = timeout_at section rest
 common_statement_at Common.Option section rest = option_at section rest
 common_statement_at Common.Stats section rest = stats_at section rest
-common_statement_at Common.Relays section rest = tuning_at 1 64 rest >>= λ number. Ok (Says.Setting (Set.Relays number))
-common_statement_at Common.Tries section rest = tuning_at 1 1000 rest >>= λ number. Ok (Says.Setting (Set.Tries number))
-common_statement_at Common.Journal section rest = tuning_at 1 1000000 rest >>= λ number. Ok (Says.Setting (Set.Journal number))
+common_statement_at Common.Relays section rest = tuning_at 1 MAX_RELAYS rest >>= λ number. Ok (Says.Setting (Set.Relays number))
+common_statement_at Common.Tries section rest = tuning_at 1 MAX_TRIES rest >>= λ number. Ok (Says.Setting (Set.Tries number))
+common_statement_at Common.Journal section rest = tuning_at 1 MAX_JOURNAL rest >>= λ number. Ok (Says.Setting (Set.Journal number))
 
 -- a line whose first word is no keyword
 unfoldable pub other_statement : List ℕ → Result Statement Fault

@@ -1,6 +1,8 @@
 -- Parameters of servers: HAProxy Configuration Manual 2.8, section 5.2. `maxpins`, the most pins that a server may hold, is this
 -- project's own.
 use Rattle.std.specs.Prelude.{ℕ, Bool, true, false, not, List, Option, Some, None, Result, Ok, Err, codes, bytes_eq, if◌then◌else◌}
+use Rattle.lb_types.specs.declared.limits.TheConstants.{MAX_CONNECTIONS, MAX_PINS, MAX_WEIGHT}
+use Rattle.rise_fall.specs.declared.health.TheConstants.{MAX_STREAK}
 use Rattle.lb_config_parameters.specs.declared.parameter.Parameter.{Parameter}
 use Rattle.lb_config_parameters.specs.declared.parameter.Parameter.TheVariants.{Check, Backup, Disabled, Inter, Rise, Fall, Weight, MaxConnections, MaxPins}
 use Rattle.lb_config_parameters.specs.declared.options_state.OptionsState.{OptionsState}
@@ -59,11 +61,11 @@ with_parameter options parameter = record { options = options; due = Some parame
 -- the options with this value of the parameter
 unfoldable pub with_value : OptionsView → Parameter → List ℕ → Result OptionsView Fault
 with_value options Inter word = time_in word >>= λ millis. Ok (record options { interval = Some millis })
-with_value options Rise word = number_in 1 1000 word >>= λ number. Ok (record options { rise = Some number })
-with_value options Fall word = number_in 1 1000 word >>= λ number. Ok (record options { fall = Some number })
-with_value options Weight word = number_in 0 256 word >>= λ number. Ok (record options { weight = Some number })
-with_value options MaxConnections word = number_in 0 4294967295 word >>= λ number. Ok (record options { max_connections = Some number })
-with_value options MaxPins word = number_in 0 16777216 word >>= λ number. Ok (record options { max_pins = Some number })
+with_value options Rise word = number_in 1 MAX_STREAK word >>= λ number. Ok (record options { rise = Some number })
+with_value options Fall word = number_in 1 MAX_STREAK word >>= λ number. Ok (record options { fall = Some number })
+with_value options Weight word = number_in 0 MAX_WEIGHT word >>= λ number. Ok (record options { weight = Some number })
+with_value options MaxConnections word = number_in 0 MAX_CONNECTIONS word >>= λ number. Ok (record options { max_connections = Some number })
+with_value options MaxPins word = number_in 0 MAX_PINS word >>= λ number. Ok (record options { max_pins = Some number })
 with_value options _ word = Ok options
 
 -- the parameter that the word names, where it may stand

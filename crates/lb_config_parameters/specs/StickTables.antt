@@ -1,5 +1,6 @@
 -- `stick-table`: HAProxy Configuration Manual 2.8, section 4.2. Its parameters stand in any order, `len` behind `type string` alone.
 use Rattle.std.specs.Prelude.{ℕ, Bool, true, false, ◌||◌, List, Option, Some, None, Result, Ok, Err, codes, bytes_eq, if◌then◌else◌}
+use Rattle.lb_acl.specs.declared.key.TheConstants.{MAX_KEY_LEN}
 use Rattle.lb_acl.specs.declared.key.TableType.{TableType}
 use Rattle.lb_acl.specs.declared.key.TableType.TheVariants.{Ip, Text}
 use Rattle.lb_config_arguments.specs.declared.fault.Fault.{Fault}
@@ -42,7 +43,7 @@ table_word_due Due.Parameter table word = table_parameter table word
 table_word_due Due.LenOrParameter table word =
     if bytes_eq word (codes "len") then Ok (record table { due = Due.Len }) else table_parameter table word
 table_word_due Due.Type table word = table_type table word
-table_word_due Due.Len table word = number_in 1 1024 word >>= λ len. Ok (record table { kind = Some (Text len); due = Due.Parameter })
+table_word_due Due.Len table word = number_in 1 MAX_KEY_LEN word >>= λ len. Ok (record table { kind = Some (Text len); due = Due.Parameter })
 table_word_due Due.Size table word = size_in word >>= λ size. Ok (record table { size = Some size; due = Due.Parameter })
 table_word_due Due.Expire table word = time_in word >>= λ millis. Ok (record table { expire = Some millis; due = Due.Parameter })
 

@@ -1,5 +1,6 @@
 -- Stick tables as contracts see them.
 use Rattle.std.specs.Prelude.{ℕ, ◌≤◌, Bool, Option}
+use Rattle.lb_types.specs.declared.limits.TheConstants.{MAX_PINS}
 use Rattle.lb_acl.specs.declared.key.TableType.{TableType}
 use Rattle.lb_config_parameters.specs.declared.table_draft.TableDue.{TableDue}
 
@@ -21,4 +22,4 @@ pub record TableDraftView : Type 0 where
 -- a lawful size
 pub record IsTableSize (size : ℕ) : Type 0 where
   pub least : 1 ≤ size
-  pub greatest : size ≤ 16777216
+  pub greatest : size ≤ MAX_PINS

@@ -3,6 +3,8 @@ ghost use Rattle.lb_config_parameters.specs.Options.{no_options, with_value};
 
 use crate::Parameter;
 use lb_config_arguments::{Fault, read_number, read_time};
+use lb_types::{MAX_CONNECTIONS, MAX_PINS, MAX_WEIGHT};
+use rise_fall::MAX_STREAK;
 use std::marker::Model;
 
 /// What a line `server` or `default-server` says of servers. `None` is what isn't said.
@@ -90,14 +92,14 @@ impl ServerOptions {
         let mut options = self;
         match parameter {
             Parameter::Inter => options.interval = Some(read_time(word)?),
-            Parameter::Rise => options.rise = Some(read_number(1, 1000, word)? as u16),
-            Parameter::Fall => options.fall = Some(read_number(1, 1000, word)? as u16),
-            Parameter::Weight => options.weight = Some(read_number(0, 256, word)? as u16),
+            Parameter::Rise => options.rise = Some(read_number(1, MAX_STREAK, word)? as u16),
+            Parameter::Fall => options.fall = Some(read_number(1, MAX_STREAK, word)? as u16),
+            Parameter::Weight => options.weight = Some(read_number(0, MAX_WEIGHT, word)? as u16),
             Parameter::MaxConnections => {
-                options.max_connections = Some(read_number(0, 4294967295, word)? as u32);
+                options.max_connections = Some(read_number(0, MAX_CONNECTIONS, word)? as u32);
             }
             Parameter::MaxPins => {
-                options.max_pins = Some(read_number(0, 16777216, word)? as u32);
+                options.max_pins = Some(read_number(0, MAX_PINS, word)? as u32);
             }
             Parameter::Check | Parameter::Backup | Parameter::Disabled => {}
         }

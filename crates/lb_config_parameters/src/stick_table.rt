@@ -1,4 +1,5 @@
 ghost use Rattle.std.specs.Prelude.{◌≡◌, ◌≤◌};
+ghost use Rattle.lb_types.specs.declared.limits.TheConstants.{MAX_PINS};
 ghost use Rattle.lb_config_arguments.specs.Faults.{Gives};
 ghost use Rattle.lb_config_arguments.specs.Reading.{each_word};
 ghost use Rattle.lb_config_parameters.specs.StickTables.{no_table, table_word, stick_table_at};
@@ -35,7 +36,7 @@ impl Model for StickTable {
 impl StickTable {
     pub(crate) fn new(kind: TableType, size: u32, expire: Option<u32>, is_nopurge: bool) -> Self
         requires least { 1 ≤ size }
-        requires greatest { size ≤ 16777216 }
+        requires greatest { size ≤ MAX_PINS }
         ensures { result ≡ record { kind = kind; size = size; expire = expire; is_nopurge = is_nopurge } }
     {
         StickTable {
@@ -57,7 +58,7 @@ impl StickTable {
     pub fn size(&self) -> u32
         ensures exact { result ≡ self.now.size }
         ensures least { 1 ≤ result }
-        ensures greatest { result ≤ 16777216 }
+        ensures greatest { result ≤ MAX_PINS }
     {
         self.size
     }

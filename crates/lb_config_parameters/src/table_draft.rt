@@ -1,9 +1,10 @@
 ghost use Rattle.std.specs.Prelude.{◌≡◌, ◌≤◌, true};
+ghost use Rattle.lb_types.specs.declared.limits.TheConstants.{MAX_PINS};
 ghost use Rattle.lb_config_arguments.specs.Faults.{Gives};
 ghost use Rattle.lb_config_parameters.specs.StickTables.{no_table, table_parameter, is_left_out_type, table_type, table_word, is_whole, table_end};
 
 use crate::StickTable;
-use lb_acl::{KeyLen, TableType};
+use lb_acl::{KeyLen, MAX_KEY_LEN, TableType};
 use lb_config_arguments::{Fault, LineError, Words, is, read_number, read_size, read_time};
 use std::marker::Model;
 
@@ -89,7 +90,7 @@ impl TableDraft {
             TableDue::LenOrParameter if is(word, b"len") => Ok(self.with_due(TableDue::Len)),
             TableDue::LenOrParameter => self.with_parameter(words, word),
             TableDue::Type => self.with_type(words, word),
-            TableDue::Len => Ok(self.with_len(read_number(1, 1024, word)? as u16)),
+            TableDue::Len => Ok(self.with_len(read_number(1, MAX_KEY_LEN, word)? as u16)),
             TableDue::Size => Ok(self.with_size(read_size(word)?)),
             TableDue::Expire => Ok(self.with_expire(read_time(word)?)),
         }
@@ -105,7 +106,7 @@ impl TableDraft {
 
     fn with_len(self, len: u16) -> Self
         requires least { 1 ≤ len }
-        requires greatest { len ≤ 1024 }
+        requires greatest { len ≤ MAX_KEY_LEN }
         ensures { result ≡ record self { kind = Some (TableType.Text len); due = TableDue.Parameter } }
     {
         self.with_kind(TableType::Text(KeyLen::new(len)), TableDue::Parameter)
@@ -122,7 +123,7 @@ impl TableDraft {
 
     fn with_size(self, size: u32) -> Self
         requires least { 1 ≤ size }
-        requires greatest { size ≤ 16777216 }
+        requires greatest { size ≤ MAX_PINS }
         ensures { result ≡ record self { size = Some size; due = TableDue.Parameter } }
     {
         let mut table = self;

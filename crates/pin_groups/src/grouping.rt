@@ -1,4 +1,5 @@
 ghost use Rattle.std.specs.Prelude.{◌≡◌, ◌^◌, ◌≤◌, length, map, IfOk};
+ghost use Rattle.lb_types.specs.declared.limits.TheConstants.{MAX_PINS};
 ghost use Rattle.dual_cert_plan.specs.Sheets.{IsSheet};
 ghost use Rattle.pin_set.specs.Rows.{AreGroupsOf};
 ghost use Rattle.pin_set.specs.Views.{kind_of};
@@ -29,7 +30,7 @@ pub fn group(alloc: Global, view: &View, version: u64) -> Result<Sheet, AllocErr
 }
 
 fn groups_of(alloc: Global, usable: ServerSet, pins: &[Pin]) -> Result<Vec<Group>, AllocError>
-    requires { length pins.now ≤ 16777216 }
+    requires { length pins.now ≤ MAX_PINS }
     ensures rising { IfOk result (λ groups. AreRising groups.items) }
     ensures counts { IfOk result (λ groups. AreGroupsOf groups.items (map (kind_of usable) pins.now)) }
 {

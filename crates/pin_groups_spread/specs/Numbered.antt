@@ -1,6 +1,7 @@
 -- Pins and servers that are told apart by their numbers.
 use Rattle.std.specs.Prelude.{◌≡◌, ℕ, ◌+◌, ◌^◌, ◌/◌, ◌%◌, ◌<◌, ◌≤◌, true, List, [], ◌∷◌, length, slice_index_or, All}
 use Rattle.std.specs.Net.Addr.{ipv4_bits}
+use Rattle.lb_types.specs.declared.limits.TheConstants.{MAX_COST, MAX_PINS, MAX_SERVERS}
 use Rattle.lb_types.specs.Names.{is_name}
 use Rattle.lb_types.specs.Servers.{has}
 use Rattle.pin_set.specs.declared.pin.Pin.{Pin}
@@ -22,7 +23,7 @@ EachNumbered {X} P xs = (k : ℕ) (d : X) → k < length xs → P k (slice_index
 pub record IsPlain (n : ℕ) (pin : PlainPin) : Type 0 where
   pub place : IsBelow n pin.place
   pub cost_from : 1 ≤ pin.cost
-  pub cost_to : pin.cost ≤ 1000
+  pub cost_to : pin.cost ≤ MAX_COST
 
 -- each of the servers is one of the first n
 abbrev pub AreBelow : ℕ → ℕ → Type 0
@@ -30,8 +31,8 @@ AreBelow n servers = (server : ℕ) → has servers server ≡ true → server <
 
 -- there is a view of servers with these capacities and of these pins
 pub record CanBeNumbered (usable : ℕ) (rooms : List ℕ) (pins : List PlainPin) : Type 0 where
-  pub few_servers : length rooms ≤ 128
-  pub few_pins : length pins ≤ 16777216
+  pub few_servers : length rooms ≤ MAX_SERVERS
+  pub few_pins : length pins ≤ MAX_PINS
   pub below : AreBelow (length rooms) usable
   pub plain : All (IsPlain (length rooms)) pins
 
@@ -58,7 +59,7 @@ pub record IsNumberedPin (n own : ℕ) (pin : Pin) : Type 0 where
   pub number : key_number pin.id.key ≡ own
   pub place : IsBelow n pin.place
   pub cost_from : 1 ≤ pin.cost
-  pub cost_to : pin.cost ≤ 1000
+  pub cost_to : pin.cost ≤ MAX_COST
 
 abbrev pub AreNumberedPins : ℕ → List Pin → Type 0
 AreNumberedPins n pins = EachNumbered (IsNumberedPin n) pins

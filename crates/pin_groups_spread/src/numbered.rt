@@ -3,7 +3,7 @@ ghost use Rattle.lb_types.specs.Names.{is_name};
 ghost use Rattle.lb_types.specs.Servers.{has};
 ghost use Rattle.pin_groups_spread.specs.Numbered.{AreBelow, AreNumberedServers, AreNumberedPins, CanBeNumbered, IsPlain, key_number, letters_of, plain_of};
 
-use lb_types::{Name, Place, ServerId, ServerSet};
+use lb_types::{MAX_COST, MAX_PINS, MAX_SERVERS, Name, Place, ServerId, ServerSet};
 use pin_set::{Pin, PinId, PinKey, View, ViewServer};
 use std::alloc::{AllocError, Global};
 use std::net::Ipv4Addr;
@@ -38,7 +38,7 @@ pub fn numbered_view(
         AreNumberedPins (length capacities.now) view.pins)) }
 {
     let n = capacities.len();
-    if n > ServerId::LIMIT || pins.len() > 16777216 {
+    if n > MAX_SERVERS || pins.len() as u64 > MAX_PINS {
         return Ok(None);
     }
     if !are_below(n, usable) || !pins.iter().all(|pin| is_plain(n, pin)) {
@@ -52,14 +52,14 @@ pub fn numbered_view(
 
 /// Whether the servers are among the first n.
 fn are_below(n: usize, servers: ServerSet) -> bool
-    requires { n ≤ 128 }
+    requires { n ≤ MAX_SERVERS }
     ensures { IsTrue result ↔ AreBelow n servers }
 {
     servers.meet(first_servers(n)) == servers
 }
 
 fn first_servers(n: usize) -> ServerSet
-    requires { n ≤ 128 }
+    requires { n ≤ MAX_SERVERS }
     ensures { (server : ℕ) → has result server ≡ true ↔ server < n }
 {
     let mut servers = ServerSet::empty();
@@ -76,11 +76,11 @@ fn is_plain(n: usize, pin: &PlainPin) -> bool
         Some(server) => server.index() < n,
         None => true,
     };
-    is_among && pin.cost >= 1 && pin.cost <= 1000
+    is_among && pin.cost >= 1 && u64::from(pin.cost) <= MAX_COST
 }
 
 fn numbered_servers(alloc: Global, capacities: &[u32]) -> Result<Vec<ViewServer>, AllocError>
-    requires { length capacities.now ≤ 128 }
+    requires { length capacities.now ≤ MAX_SERVERS }
     ensures capacities { IfOk result (λ servers.
         map (λ server. server.capacity) servers.items ≡ capacities.now) }
     ensures numbered { IfOk result (λ servers. AreNumberedServers servers.items) }
@@ -97,7 +97,7 @@ fn numbered_servers(alloc: Global, capacities: &[u32]) -> Result<Vec<ViewServer>
 
 /// Two letters.
 fn numbered_name(i: usize) -> Name
-    requires { i < 128 }
+    requires { i < MAX_SERVERS }
     ensures name { is_name result ≡ true }
     ensures letters { result ≡ letters_of i }
 {
@@ -109,7 +109,7 @@ fn numbered_name(i: usize) -> Name
 }
 
 fn numbered_pins(alloc: Global, n: usize, plain: &[PlainPin]) -> Result<Vec<Pin>, AllocError>
-    requires few { length plain.now ≤ 16777216 }
+    requires few { length plain.now ≤ MAX_PINS }
     requires plain { All (IsPlain n) plain.now }
     ensures plain { IfOk result (λ pins. map plain_of pins.items ≡ plain.now) }
     ensures numbered { IfOk result (λ pins. AreNumberedPins n pins.items) }

@@ -1,6 +1,7 @@
 -- What a plan that is being made keeps. No public clause cites this module.
 use Rattle.std.specs.Prelude.{◌≡◌, ◌≢◌, ℕ, ◌-◌, ◌^◌, ◌<◌, ◌≤◌, Bool, true, None, List, length, slice_get, sum_by, All}
 use Rattle.std.specs.Option.{ForSome, option_map_or}
+use Rattle.lb_types.specs.declared.limits.TheConstants.{MAX_COST}
 use Rattle.lb_types.specs.Servers.{has}
 use Rattle.lb_types_pins.specs.declared.kind.PinKind.{PinKind}
 use Rattle.lb_types_pins.specs.declared.kind.Row.{Row}
@@ -34,7 +35,7 @@ pub record MayStand (n usable : ℕ) (kind : PinKind) : Type 0 where
   pub place : ForSome kind.place (λ server. server < n)
   pub permitted : IsWithin kind.permitted usable
   pub cost_from : 1 ≤ kind.cost
-  pub cost_to : kind.cost ≤ 1000
+  pub cost_to : kind.cost ≤ MAX_COST
 
 -- the row stands strictly behind the last one
 abbrev pub comes_next : List Row → Row → Bool

@@ -5,7 +5,7 @@ ghost use Rattle.lb_types.specs.Servers.{with_server};
 ghost use Rattle.small_farms.specs.Drafts.{MayCost, IsNew, IsWithin, MayStand, comes_next};
 
 use dual_cert_plan::{Plan, PricedServer, Server};
-use lb_types::{Name, Place, ServerId, ServerSet};
+use lb_types::{MAX_COST, MAX_PINS, MAX_SERVERS, Name, Place, ServerId, ServerSet};
 use lb_types_pins::{PinKind, Row};
 use std::alloc::{AllocError, Global};
 use std::marker::Model;
@@ -47,7 +47,7 @@ impl Draft {
     /// Puts a server behind the others. False where it may not stand there.
     pub(crate) fn add_server(&mut self, server: Server, price: u64) -> Result<bool, AllocError> {
         let at = self.servers.len();
-        if at >= 128 || !self.rows.is_empty() || !is_new(&self.servers, server.name) {
+        if at >= MAX_SERVERS || !self.rows.is_empty() || !is_new(&self.servers, server.name) {
             return Ok(false);
         }
         if !may_cost(&server, price) {
@@ -60,7 +60,7 @@ impl Draft {
 
     /// Puts a row behind the others. False where it may not stand there.
     pub(crate) fn add_row(&mut self, row: Row) -> Result<bool, AllocError> {
-        if row.count == 0 || row.count > 16777216 - self.pins {
+        if row.count == 0 || u64::from(row.count) > MAX_PINS - u64::from(self.pins) {
             return Ok(false);
         }
         if !may_stand(self.servers.len(), self.usable, &row.kind) {
@@ -102,7 +102,7 @@ fn may_cost(server: &Server, price: u64) -> bool
 
 /// The usable servers with the one of this number, where it is usable.
 fn or_usable(usable: ServerSet, server: &Server, number: usize) -> ServerSet
-    requires { number < 128 }
+    requires { number < MAX_SERVERS }
     ensures exact { result ≡ (if is_some server.now.capacity then with_server usable number else usable) }
     ensures capacity { ForSome server.now.capacity (λ capacity. capacity < 2 ^ 32) }
 {
@@ -119,7 +119,7 @@ fn may_stand(servers: usize, usable: ServerSet, kind: &PinKind) -> bool
     is_below(servers, kind.place)
         && is_within(kind.permitted, usable)
         && kind.cost >= 1
-        && kind.cost <= 1000
+        && u64::from(kind.cost) <= MAX_COST
 }
 
 fn is_within(set: ServerSet, others: ServerSet) -> bool

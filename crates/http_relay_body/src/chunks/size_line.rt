@@ -10,7 +10,7 @@ use http_relay_wire::Wire;
 use httparse::{Status, parse_chunk_size};
 
 /// The most bytes that a size line may have, its line end included.
-const MOST_BYTES: usize = 256;
+const MOST_LINE_BYTES: usize = 256;
 
 /// Passes on the size line of a chunk, and answers the size that it tells. The line goes through this room.
 pub(crate) fn pass_size_line<C: Wire, S: Wire>(
@@ -19,7 +19,7 @@ pub(crate) fn pass_size_line<C: Wire, S: Wire>(
     server: &mut S,
     room: &mut [u8],
 ) -> Result<u64, BodyFault>
-    requires { MOST_BYTES ≤ length room.old }
+    requires { MOST_LINE_BYTES ≤ length room.old }
     ensures moved { Moved IsSizeText at_hand.old at_hand.new (C.reading client.old) (C.reading client.new)
         (S.written server.old) (S.written server.new) result }
     ensures fewer { OnOk result (length at_hand.new + (C.reading client.new).left < length at_hand.old + (C.reading client.old).left) }
@@ -29,7 +29,7 @@ pub(crate) fn pass_size_line<C: Wire, S: Wire>(
     ensures server_reading { S.reading server.new ≡ S.reading server.old }
 {
     let mut filled = 0;
-    while filled < MOST_BYTES {
+    while filled < MOST_LINE_BYTES {
         take_behind(at_hand, client, room, filled)?;
         filled += 1;
         match parse_chunk_size(&room[..filled]) {

@@ -11,7 +11,7 @@ use httparse::Status;
 use httparse::spans::{EMPTY_HEADER_SPAN, HeaderSpan, parse_headers};
 
 /// The most bytes that a trailer may have, its empty line included.
-pub(crate) const MOST_BYTES: usize = 8192;
+pub(crate) const MOST_TRAILER_BYTES: usize = 8192;
 
 /// The most fields that a trailer may have.
 const MOST_FIELDS: usize = 100;
@@ -23,7 +23,7 @@ pub(crate) fn pass_trailer<C: Wire, S: Wire>(
     server: &mut S,
     room: &mut [u8],
 ) -> Result<(), BodyFault>
-    requires { MOST_BYTES ≤ length room.old }
+    requires { MOST_TRAILER_BYTES ≤ length room.old }
     ensures moved { Moved IsTrailerText at_hand.old at_hand.new (C.reading client.old) (C.reading client.new)
         (S.written server.old) (S.written server.new) result }
     ensures client { C.faults client.new ≡ client_faults result (C.faults client.old) }
@@ -43,7 +43,7 @@ fn pass_fields<C: Wire, S: Wire>(
     room: &mut [u8],
     headers: &mut [HeaderSpan],
 ) -> Result<(), BodyFault>
-    requires room { MOST_BYTES ≤ length room.old }
+    requires room { MOST_TRAILER_BYTES ≤ length room.old }
     requires headers { length headers.old ≡ MOST_FIELDS }
     ensures moved { Moved IsTrailerText at_hand.old at_hand.new (C.reading client.old) (C.reading client.new)
         (S.written server.old) (S.written server.new) result }
@@ -53,7 +53,7 @@ fn pass_fields<C: Wire, S: Wire>(
     ensures server_reading { S.reading server.new ≡ S.reading server.old }
 {
     let mut filled = 0;
-    while filled < MOST_BYTES {
+    while filled < MOST_TRAILER_BYTES {
         let byte = take_behind(at_hand, client, room, filled)?;
         filled += 1;
         // Only the end of a line can end the trailer, so no byte inside a line costs a walk.
