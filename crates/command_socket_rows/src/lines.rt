@@ -128,57 +128,74 @@ fn a_wrong_word_is_told_in_each_place(rt: HostRuntime) -> Result<(), Fail> {
     Ok(())
 }
 
-#[test]
-fn the_first_fault_from_the_left_is_told(rt: HostRuntime) -> Result<(), Fail> {
-    let cases = [
-        ("set weight web/a x y", BadNumber),
-        ("set weight web/a 18446744073709551616 y", BadNumber),
-        ("set weight web x", UnknownCommand),
-        ("set weight web", UnknownCommand),
-        ("set server web/a speed", UnknownCommand),
-        ("set server web/a health stopping", UnknownCommand),
-        ("set server web/a state", MissingWord),
-        ("set server web/a weight", MissingWord),
-        ("set maxconn web/a 7", UnknownCommand),
-        ("show pins", UnknownCommand),
-        ("stopping", UnknownCommand),
-        ("Stop", UnknownCommand),
-        ("stop stop", UnknownCommand),
-        ("plan web", UnknownCommand),
-        // A tab or a carriage return is part of its word.
-        ("stop\t", UnknownCommand),
-        ("plan\tbackend web", UnknownCommand),
-        ("enable server web/a\r", UnknownCommand),
-        ("\t", UnknownCommand),
-        // A server is two names with one slash between.
-        ("enable server web", UnknownCommand),
-        ("enable server /", UnknownCommand),
-        ("enable server web/", UnknownCommand),
-        ("enable server /a", UnknownCommand),
-        ("enable server web/a/b", UnknownCommand),
-        ("enable server web//a", UnknownCommand),
-        ("enable server -/a", UnknownCommand),
-        ("enable server web/-", UnknownCommand),
-        ("enable server web/a,b", UnknownCommand),
-        ("enable server w%b/a", UnknownCommand),
-        // A number is decimal digits, and less than 2^64.
-        ("set weight web/a 18446744073709551616", BadNumber),
-        ("set server web/a weight 18446744073709551616", BadNumber),
-        ("set maxconn server web/a 18446744073709551616", BadNumber),
-        ("set maxpins server web/a 18446744073709551616", BadNumber),
-        (
-            "set weight web/a 99999999999999999999999999999999999999999999",
-            BadNumber,
-        ),
-        ("set weight web/a -1", BadNumber),
-        ("set weight web/a +1", BadNumber),
-        ("set weight web/a 0x7", BadNumber),
-        ("set weight web/a 7%", BadNumber),
-    ];
-    for (line, fault) in cases {
-        expect(&rt, rt.alloc(), line, &[Err(fault)])?;
+/// The first fault from the left.
+const WRONG_WORDS: [(&str, CommandFault); 14] = [
+    ("set weight web/a x y", BadNumber),
+    ("set weight web/a 18446744073709551616 y", BadNumber),
+    ("set weight web x", UnknownCommand),
+    ("set weight web", UnknownCommand),
+    ("set server web/a speed", UnknownCommand),
+    ("set server web/a health stopping", UnknownCommand),
+    ("set server web/a state", MissingWord),
+    ("set server web/a weight", MissingWord),
+    ("set maxconn web/a 7", UnknownCommand),
+    ("show pins", UnknownCommand),
+    ("stopping", UnknownCommand),
+    ("Stop", UnknownCommand),
+    ("stop stop", UnknownCommand),
+    ("plan web", UnknownCommand),
+];
+
+/// A tab or a carriage return is part of its word. A server is two names with one slash between.
+const WRONG_NAMES: [(&str, CommandFault); 14] = [
+    ("stop\t", UnknownCommand),
+    ("plan\tbackend web", UnknownCommand),
+    ("enable server web/a\r", UnknownCommand),
+    ("\t", UnknownCommand),
+    ("enable server web", UnknownCommand),
+    ("enable server /", UnknownCommand),
+    ("enable server web/", UnknownCommand),
+    ("enable server /a", UnknownCommand),
+    ("enable server web/a/b", UnknownCommand),
+    ("enable server web//a", UnknownCommand),
+    ("enable server -/a", UnknownCommand),
+    ("enable server web/-", UnknownCommand),
+    ("enable server web/a,b", UnknownCommand),
+    ("enable server w%b/a", UnknownCommand),
+];
+
+/// A number is decimal digits, and less than 2^64.
+const WRONG_NUMBERS: [(&str, CommandFault); 9] = [
+    ("set weight web/a 18446744073709551616", BadNumber),
+    ("set server web/a weight 18446744073709551616", BadNumber),
+    ("set maxconn server web/a 18446744073709551616", BadNumber),
+    ("set maxpins server web/a 18446744073709551616", BadNumber),
+    (
+        "set weight web/a 99999999999999999999999999999999999999999999",
+        BadNumber,
+    ),
+    ("set weight web/a -1", BadNumber),
+    ("set weight web/a +1", BadNumber),
+    ("set weight web/a 0x7", BadNumber),
+    ("set weight web/a 7%", BadNumber),
+];
+
+fn expect_faults(
+    rt: &impl Abort,
+    alloc: Global,
+    rows: &[(&str, CommandFault)],
+) -> Result<(), Fail> {
+    for (line, fault) in rows {
+        expect(rt, alloc, line, &[Err(*fault)])?;
     }
     Ok(())
+}
+
+#[test]
+fn the_first_fault_from_the_left_is_told(rt: HostRuntime) -> Result<(), Fail> {
+    expect_faults(&rt, rt.alloc(), &WRONG_WORDS)?;
+    expect_faults(&rt, rt.alloc(), &WRONG_NAMES)?;
+    expect_faults(&rt, rt.alloc(), &WRONG_NUMBERS)
 }
 
 #[test]

@@ -1,126 +1,159 @@
 use lb_cli_words::{ErrorKind, Job, exit_status, read_words};
+use std::alloc::Global;
+use std::process::Abort;
 use std::test::Fail;
 
-#[test]
-fn words_and_the_jobs_that_they_ask_for(rt: HostRuntime) -> Result<(), Fail> {
-    let cases: [(&[&str], Job); 17] = [
-        (
-            &["stickylb", "verify", "row3.plan"],
-            Job::Verify { file: "row3.plan" },
-        ),
-        (
-            &["./another name", "verify", "a plan"],
-            Job::Verify { file: "a plan" },
-        ),
-        (
-            &["stickylb", "verify", "row3.plan", "--"],
-            Job::Verify { file: "row3.plan" },
-        ),
-        (
-            &["stickylb", "verify", "--", "row3.plan"],
-            Job::Verify { file: "row3.plan" },
-        ),
-        (
-            &["stickylb", "verify", "--", "--help"],
-            Job::Verify { file: "--help" },
-        ),
-        (
-            &["stickylb", "verify", "--", "--"],
-            Job::Verify { file: "--" },
-        ),
-        (&["stickylb", "verify", "-"], Job::Verify { file: "-" }),
-        (
-            &["stickylb", "verify", "verify"],
-            Job::Verify { file: "verify" },
-        ),
-        (
-            &["stickylb", "plan", "drain.sheet"],
-            Job::Plan {
-                file: "drain.sheet",
-            },
-        ),
-        (&["stickylb", "plan", "--", "-f"], Job::Plan { file: "-f" }),
-        (&["stickylb", "plan", "plan"], Job::Plan { file: "plan" }),
-        (
-            &["stickylb", "check", "-f", "web.cfg"],
-            Job::Check { file: "web.cfg" },
-        ),
-        (
-            &["stickylb", "check", "-fweb.cfg"],
-            Job::Check { file: "web.cfg" },
-        ),
-        (
-            &["stickylb", "check", "-f=web.cfg"],
-            Job::Check { file: "web.cfg" },
-        ),
-        (&["stickylb", "check", "-fh"], Job::Check { file: "h" }),
-        (&["stickylb", "check", "-f", "-"], Job::Check { file: "-" }),
-        (
-            &["stickylb", "check", "-f", "web.cfg", "--"],
-            Job::Check { file: "web.cfg" },
-        ),
-    ];
-    for (words, job) in cases {
-        assert_eq!(rt; read_words(rt.alloc(), words)?, job, "at {words:?}");
+/// Words of `verify`.
+const VERIFY: [(&[&str], Job); 8] = [
+    (
+        &["stickylb", "verify", "row3.plan"],
+        Job::Verify { file: "row3.plan" },
+    ),
+    (
+        &["./another name", "verify", "a plan"],
+        Job::Verify { file: "a plan" },
+    ),
+    (
+        &["stickylb", "verify", "row3.plan", "--"],
+        Job::Verify { file: "row3.plan" },
+    ),
+    (
+        &["stickylb", "verify", "--", "row3.plan"],
+        Job::Verify { file: "row3.plan" },
+    ),
+    (
+        &["stickylb", "verify", "--", "--help"],
+        Job::Verify { file: "--help" },
+    ),
+    (
+        &["stickylb", "verify", "--", "--"],
+        Job::Verify { file: "--" },
+    ),
+    (&["stickylb", "verify", "-"], Job::Verify { file: "-" }),
+    (
+        &["stickylb", "verify", "verify"],
+        Job::Verify { file: "verify" },
+    ),
+];
+
+/// Words of `plan` and `check`.
+const PLAN_AND_CHECK: [(&[&str], Job); 9] = [
+    (
+        &["stickylb", "plan", "drain.sheet"],
+        Job::Plan {
+            file: "drain.sheet",
+        },
+    ),
+    (&["stickylb", "plan", "--", "-f"], Job::Plan { file: "-f" }),
+    (&["stickylb", "plan", "plan"], Job::Plan { file: "plan" }),
+    (
+        &["stickylb", "check", "-f", "web.cfg"],
+        Job::Check { file: "web.cfg" },
+    ),
+    (
+        &["stickylb", "check", "-fweb.cfg"],
+        Job::Check { file: "web.cfg" },
+    ),
+    (
+        &["stickylb", "check", "-f=web.cfg"],
+        Job::Check { file: "web.cfg" },
+    ),
+    (&["stickylb", "check", "-fh"], Job::Check { file: "h" }),
+    (&["stickylb", "check", "-f", "-"], Job::Check { file: "-" }),
+    (
+        &["stickylb", "check", "-f", "web.cfg", "--"],
+        Job::Check { file: "web.cfg" },
+    ),
+];
+
+fn expect_jobs(rt: &impl Abort, alloc: Global, rows: &[(&[&str], Job)]) -> Result<(), Fail> {
+    for (words, job) in rows {
+        assert_eq!(rt; read_words(alloc, words)?, *job, "at {words:?}");
     }
     Ok(())
 }
 
-// Help is no mistake and goes to the standard output, and its text names the commands and their files.
 #[test]
-fn words_that_ask_for_help_and_wrong_ones(rt: HostRuntime) -> Result<(), Fail> {
-    let refused: [(&[&str], ErrorKind); 18] = [
-        (
-            &["stickylb"],
-            ErrorKind::DisplayHelpOnMissingArgumentOrSubcommand,
-        ),
-        (&["stickylb", "balance"], ErrorKind::InvalidSubcommand),
-        (&["stickylb", "Verify", "a"], ErrorKind::InvalidSubcommand),
-        (
-            &["stickylb", "--fast", "verify", "a"],
-            ErrorKind::UnknownArgument,
-        ),
-        (&["stickylb", "verify"], ErrorKind::MissingRequiredArgument),
-        (
-            &["stickylb", "verify", "--"],
-            ErrorKind::MissingRequiredArgument,
-        ),
-        (
-            &["stickylb", "verify", "a", "b"],
-            ErrorKind::UnknownArgument,
-        ),
-        (
-            &["stickylb", "verify", "-f", "a"],
-            ErrorKind::UnknownArgument,
-        ),
-        (&["stickylb", "plan"], ErrorKind::MissingRequiredArgument),
-        (&["stickylb", "plan", "a", "b"], ErrorKind::UnknownArgument),
-        (&["stickylb", "plans", "a"], ErrorKind::InvalidSubcommand),
-        (&["stickylb", "check"], ErrorKind::MissingRequiredArgument),
-        (
-            &["stickylb", "check", "web.cfg"],
-            ErrorKind::UnknownArgument,
-        ),
-        (&["stickylb", "check", "-f"], ErrorKind::InvalidValue),
-        (
-            &["stickylb", "check", "-f", "--", "web.cfg"],
-            ErrorKind::UnknownArgument,
-        ),
-        (
-            &["stickylb", "check", "-f", "a", "-f", "b"],
-            ErrorKind::ArgumentConflict,
-        ),
-        (&["stickylb", "check", "-f", "-h"], ErrorKind::InvalidValue),
-        (
-            &["stickylb", "verify", "--help=a"],
-            ErrorKind::TooManyValues,
-        ),
-    ];
-    for (words, kind) in refused {
-        let error = read_words(rt.alloc(), words).err().ok_or("an error")?;
+fn words_and_the_jobs_that_they_ask_for(rt: HostRuntime) -> Result<(), Fail> {
+    expect_jobs(&rt, rt.alloc(), &VERIFY)?;
+    expect_jobs(&rt, rt.alloc(), &PLAN_AND_CHECK)
+}
+
+/// Wrong words, without a command or of `verify`.
+const WRONG: [(&[&str], ErrorKind); 9] = [
+    (
+        &["stickylb"],
+        ErrorKind::DisplayHelpOnMissingArgumentOrSubcommand,
+    ),
+    (&["stickylb", "balance"], ErrorKind::InvalidSubcommand),
+    (&["stickylb", "Verify", "a"], ErrorKind::InvalidSubcommand),
+    (
+        &["stickylb", "--fast", "verify", "a"],
+        ErrorKind::UnknownArgument,
+    ),
+    (&["stickylb", "verify"], ErrorKind::MissingRequiredArgument),
+    (
+        &["stickylb", "verify", "--"],
+        ErrorKind::MissingRequiredArgument,
+    ),
+    (
+        &["stickylb", "verify", "a", "b"],
+        ErrorKind::UnknownArgument,
+    ),
+    (
+        &["stickylb", "verify", "-f", "a"],
+        ErrorKind::UnknownArgument,
+    ),
+    (
+        &["stickylb", "verify", "--help=a"],
+        ErrorKind::TooManyValues,
+    ),
+];
+
+/// Wrong words of `plan` and `check`.
+const WRONG_OF_OTHERS: [(&[&str], ErrorKind); 9] = [
+    (&["stickylb", "plan"], ErrorKind::MissingRequiredArgument),
+    (&["stickylb", "plan", "a", "b"], ErrorKind::UnknownArgument),
+    (&["stickylb", "plans", "a"], ErrorKind::InvalidSubcommand),
+    (&["stickylb", "check"], ErrorKind::MissingRequiredArgument),
+    (
+        &["stickylb", "check", "web.cfg"],
+        ErrorKind::UnknownArgument,
+    ),
+    (&["stickylb", "check", "-f"], ErrorKind::InvalidValue),
+    (
+        &["stickylb", "check", "-f", "--", "web.cfg"],
+        ErrorKind::UnknownArgument,
+    ),
+    (
+        &["stickylb", "check", "-f", "a", "-f", "b"],
+        ErrorKind::ArgumentConflict,
+    ),
+    (&["stickylb", "check", "-f", "-h"], ErrorKind::InvalidValue),
+];
+
+fn expect_refused(
+    rt: &impl Abort,
+    alloc: Global,
+    rows: &[(&[&str], ErrorKind)],
+) -> Result<(), Fail> {
+    for (words, kind) in rows {
+        let error = read_words(alloc, words).err().ok_or("an error")?;
         let told = (error.kind(), exit_status(&error), error.use_stderr());
-        assert_eq!(rt; told, (kind, 2, true), "at {words:?}");
+        assert_eq!(rt; told, (*kind, 2, true), "at {words:?}");
     }
+    Ok(())
+}
+
+#[test]
+fn other_words_are_refused(rt: HostRuntime) -> Result<(), Fail> {
+    expect_refused(&rt, rt.alloc(), &WRONG)?;
+    expect_refused(&rt, rt.alloc(), &WRONG_OF_OTHERS)
+}
+
+// Help is no mistake and goes to the standard output.
+#[test]
+fn help_ends_well(rt: HostRuntime) -> Result<(), Fail> {
     let helped: [&[&str]; 8] = [
         &["stickylb", "--help"],
         &["stickylb", "-h"],
@@ -136,6 +169,11 @@ fn words_that_ask_for_help_and_wrong_ones(rt: HostRuntime) -> Result<(), Fail> {
         let told = (exit_status(&error), error.use_stderr());
         assert_eq!(rt; told, (0, false), "at {words:?}");
     }
+    Ok(())
+}
+
+#[test]
+fn help_names_the_commands_and_their_files(rt: HostRuntime) -> Result<(), Fail> {
     let texts: [(&[&str], &str); 4] = [
         (
             &["stickylb", "--help"],

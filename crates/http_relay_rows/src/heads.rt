@@ -4,6 +4,7 @@ use http_relay_head::{HEAD_ROOM, HeadFault, read_head};
 use http_relay_wire::{Script, ScriptedWire};
 use lb_acl::Version;
 use std::alloc::Global;
+use std::process::Abort;
 use std::test::Fail;
 
 type Verdict = Result<BodyKind, HeadFault>;
@@ -36,8 +37,8 @@ fn verdict(alloc: Global, bytes: &[u8], pieces: &[usize]) -> Verdict {
 
 const POST: &[u8] = b"POST /p HTTP/1.1\r\n";
 
-// Lines of a head of HTTP/1.1.
-const LINES: [(&[u8], Verdict); 77] = [
+// Lines of a head of HTTP/1.1 that tell of no body.
+const NO_BODY: [(&[u8], Verdict); 9] = [
     (b"", NONE),
     (b"Host: x\r\n", NONE),
     (b"Host: x\r\nHost: y\r\n", NONE),
@@ -47,6 +48,10 @@ const LINES: [(&[u8], Verdict); 77] = [
     (b"X-Content-Length: 3\r\n", NONE),
     (b"Connection: close, x-host, hosts\r\n", NONE),
     (b"Connection: Connection\r\n", NONE),
+];
+
+// Lines of one length, or of chunks.
+const LENGTHS_AND_CHUNKS: [(&[u8], Verdict); 11] = [
     (b"Content-Length: 3\r\n", THREE),
     (b"content-length:3\r\n", THREE),
     (b"CONTENT-LENGTH: \t 3\t \r\n", THREE),
@@ -61,7 +66,10 @@ const LINES: [(&[u8], Verdict); 77] = [
     ),
     (b"Transfer-Encoding: chunked\r\n", CHUNKS),
     (b"transfer-encoding:\tCHUNKED \r\n", CHUNKS),
-    // Two lengths, or a length beside chunks.
+];
+
+// Two lengths, or a length beside chunks. A length that is none is told first.
+const BESIDE_A_LENGTH: [(&[u8], Verdict); 8] = [
     (b"Content-Length: 3\r\nContent-Length: 4\r\n", BOTH),
     (
         b"Content-Length: 3\r\nContent-Length: 3\r\nContent-Length: 4\r\n",
@@ -71,7 +79,12 @@ const LINES: [(&[u8], Verdict); 77] = [
     (b"Content-Length: 3\r\nTransfer-Encoding: chunked\r\n", BOTH),
     (b"Transfer-Encoding: chunked\r\nContent-Length: 3\r\n", BOTH),
     (b"Transfer-Encoding: chunked\r\nContent-Length: 0\r\n", BOTH),
-    // Lengths that are none.
+    (b"Content-Length: 3\r\nContent-Length: x\r\n", BAD),
+    (b"Content-Length: x\r\nTransfer-Encoding: chunked\r\n", BAD),
+];
+
+// Lengths that are none.
+const NO_LENGTHS: [(&[u8], Verdict); 14] = [
     (b"Content-Length:\r\n", BAD),
     (b"Content-Length: +3\r\n", BAD),
     (b"Content-Length: -3\r\n", BAD),
@@ -86,9 +99,10 @@ const LINES: [(&[u8], Verdict); 77] = [
     (b"Content-Length: \xd9\xa3\r\n", BAD),
     (b"Content-Length: 0000000000000000003\r\n", BAD),
     (b"Content-Length: 18446744073709551619\r\n", BAD),
-    (b"Content-Length: 3\r\nContent-Length: x\r\n", BAD),
-    (b"Content-Length: x\r\nTransfer-Encoding: chunked\r\n", BAD),
-    // Codings that are not the one.
+];
+
+// Codings that are not the one.
+const OTHER_CODINGS: [(&[u8], Verdict); 14] = [
     (b"Transfer-Encoding:\r\n", BAD),
     (b"Transfer-Encoding: identity\r\n", BAD),
     (b"Transfer-Encoding: gzip\r\n", BAD),
@@ -109,13 +123,19 @@ const LINES: [(&[u8], Verdict); 77] = [
     ),
     (b"Transfer-Encoding: gzip\r\nContent-Length: 3\r\n", BAD),
     (b"Transfer-Encoding: \x0bchunked\r\n", BAD),
-    // Connection must not take the host or the body away.
+];
+
+// Connection must not take the host or the body away.
+const CONNECTIONS: [(&[u8], Verdict); 5] = [
     (b"Connection: host\r\nHost: x\r\n", BAD),
     (b"Connection: Host\r\n", BAD),
     (b"Connection: content-length\r\nContent-Length: 3\r\n", BAD),
     (b"Connection: close ,\tTRANSFER-ENCODING\r\n", BAD),
     (b"Connection: close\r\nX: 1\r\nconnection: Host\r\n", BAD),
-    // Lines that readers part differently.
+];
+
+// Lines that readers part differently.
+const PARTED_LINES: [(&[u8], Verdict); 8] = [
     (b"Content-Length : 3\r\n", BAD),
     (b"Transfer-Encoding\t: chunked\r\n", BAD),
     (b" Host: x\r\n", BAD),
@@ -124,6 +144,10 @@ const LINES: [(&[u8], Verdict); 77] = [
     (b"Bad Name: 1\r\n", BAD),
     (b": 1\r\n", BAD),
     (b"Host\r\n", BAD),
+];
+
+// Bytes that stand in no name or no value, some of them line ends to other readers.
+const OTHER_BYTES: [(&[u8], Verdict); 8] = [
     (b"X: a\0b\r\n", BAD),
     (b"X\0: 1\r\n", BAD),
     (b"X: a\rContent-Length: 3\r\n", BAD),
@@ -134,8 +158,8 @@ const LINES: [(&[u8], Verdict); 77] = [
     (b"\xffX: 1\r\n", BAD),
 ];
 
-// Whole heads, and less than a head.
-const HEADS: [(&[u8], Verdict); 28] = [
+// Whole heads whose versions and bodies are told apart.
+const VERSIONS_AND_BODIES: [(&[u8], Verdict); 12] = [
     (b"GET / HTTP/1.1\r\n\r\n", NONE),
     (b"GET / HTTP/1.0\n\n", NONE),
     (b"\r\n\n\r\nGET / HTTP/1.1\r\n\r\n", NONE),
@@ -154,6 +178,10 @@ const HEADS: [(&[u8], Verdict); 28] = [
     (b"GET / HTTP/1.2\r\n\r\n", BAD),
     (b"GET / HTTP/2.0\r\n\r\n", BAD),
     (b"GET / http/1.1\r\n\r\n", BAD),
+];
+
+// Whole heads whose first lines are none.
+const FIRST_LINES: [(&[u8], Verdict); 10] = [
     (b"GET /\r\n\r\n", BAD),
     (b"GET  / HTTP/1.1\r\n\r\n", BAD),
     (b"GET\t/ HTTP/1.1\r\n\r\n", BAD),
@@ -164,6 +192,10 @@ const HEADS: [(&[u8], Verdict); 28] = [
     (b"GET /\0 HTTP/1.1\r\n\r\n", BAD),
     (b"GET /\xff HTTP/1.1\r\n\r\n", BAD),
     (b"\rGET / HTTP/1.1\r\n\r\n", BAD),
+];
+
+// Less than a head.
+const CUT_HEADS: [(&[u8], Verdict); 6] = [
     (b"", CUT),
     (b"\r\n", CUT),
     (b"GET / HTT", CUT),
@@ -172,29 +204,58 @@ const HEADS: [(&[u8], Verdict); 28] = [
     (b"GET / HTTP/1.1\r\nHost: x\r\n\r", CUT),
 ];
 
-#[test]
-fn heads_and_their_verdicts(rt: HostRuntime) -> Result<(), Fail> {
-    for (lines, expected) in LINES {
-        let bytes = joined(rt.alloc(), POST, lines, 1, b"\r\n")?;
-        assert!(rt; verdict(rt.alloc(), &bytes, &[]) == expected, "{lines:?}");
-    }
-    for (bytes, expected) in HEADS {
-        assert!(rt; verdict(rt.alloc(), bytes, &[]) == expected, "{bytes:?}");
+// What is told of each row, between this front and this end.
+fn expect_verdicts(
+    rt: &impl Abort,
+    alloc: Global,
+    front: &[u8],
+    end: &[u8],
+    rows: &[(&[u8], Verdict)],
+) -> Result<(), Fail> {
+    for (row, expected) in rows {
+        let bytes = joined(alloc, front, row, 1, end)?;
+        assert!(rt; verdict(alloc, &bytes, &[]) == *expected, "{row:?}");
     }
     Ok(())
 }
 
+// What is told of a request with each of the lines.
+fn expect_of_lines(rt: &impl Abort, alloc: Global) -> Result<(), Fail> {
+    expect_verdicts(rt, alloc, POST, b"\r\n", &NO_BODY)?;
+    expect_verdicts(rt, alloc, POST, b"\r\n", &LENGTHS_AND_CHUNKS)?;
+    expect_verdicts(rt, alloc, POST, b"\r\n", &BESIDE_A_LENGTH)?;
+    expect_verdicts(rt, alloc, POST, b"\r\n", &NO_LENGTHS)?;
+    expect_verdicts(rt, alloc, POST, b"\r\n", &OTHER_CODINGS)?;
+    expect_verdicts(rt, alloc, POST, b"\r\n", &CONNECTIONS)?;
+    expect_verdicts(rt, alloc, POST, b"\r\n", &PARTED_LINES)?;
+    expect_verdicts(rt, alloc, POST, b"\r\n", &OTHER_BYTES)
+}
+
+#[test]
+fn heads_and_their_verdicts(rt: HostRuntime) -> Result<(), Fail> {
+    expect_of_lines(&rt, rt.alloc())?;
+    expect_verdicts(&rt, rt.alloc(), b"", b"", &VERSIONS_AND_BODIES)?;
+    expect_verdicts(&rt, rt.alloc(), b"", b"", &FIRST_LINES)?;
+    expect_verdicts(&rt, rt.alloc(), b"", b"", &CUT_HEADS)
+}
+
 const GET: &[u8] = b"GET / HTTP/1.1\r\nXxx: ";
 
-// A front, so many times the middle, the end, and the verdict: heads at the limits of 16384 bytes and 100 fields and beyond, and heads
-// with two faults. Of the parser, fields beyond the limit are 90 and any other error 91, whichever it meets first; what the rules
-// refuse is judged in a head that was parsed.
-const LIMITS: [(&[u8], &[u8], usize, &[u8], Verdict); 18] = [
+// A front, so many times the middle, the end, and the verdict.
+type Repeated = (&'static [u8], &'static [u8], usize, &'static [u8], Verdict);
+
+// Heads at the limits of 16384 bytes and 100 fields, and beyond.
+const AT_LIMITS: [Repeated; 5] = [
     (GET, b"x", 16359, b"\r\n\r\n", NONE),
     (GET, b"x", 16360, b"\r\n\r\n", LARGE),
     (GET, b"x", 39975, b"\r\n\r\n", LARGE),
     (POST, b"X: 1\r\n", 100, b"\r\n", NONE),
     (POST, b"X: 1\r\n", 101, b"\r\n", LARGE),
+];
+
+// Heads with two faults. Of the parser, fields beyond the limit are 90 and any other error 91, whichever it meets first; what the rules
+// refuse is judged in a head that was parsed.
+const OF_TWO_FAULTS: [Repeated; 13] = [
     (POST, b"X: 1\r\n", 101, b"Bad Name: 1\r\n\r\n", LARGE),
     (POST, b"X: 1\r\n", 101, b"Host\r\n\r\n", LARGE),
     (POST, b"X: 1\r\n", 101, b"X: a\0b\r\n\r\n", LARGE),
@@ -258,18 +319,24 @@ const LIMITS: [(&[u8], &[u8], usize, &[u8], Verdict); 18] = [
     ),
 ];
 
-#[test]
-fn heads_at_the_limits_and_of_two_faults(rt: HostRuntime) -> Result<(), Fail> {
-    for (front, middle, times, end, expected) in LIMITS {
-        let bytes = joined(rt.alloc(), front, middle, times, end)?;
+// What is told of each row, in whatever pieces it comes.
+fn expect_in_pieces(rt: &impl Abort, alloc: Global, rows: &[Repeated]) -> Result<(), Fail> {
+    for (front, middle, times, end, expected) in rows {
+        let bytes = joined(alloc, front, middle, *times, end)?;
         for pieces in [[].as_slice(), &[1], &[40, 7]] {
             assert!(rt;
-                verdict(rt.alloc(), &bytes, pieces) == expected,
+                verdict(alloc, &bytes, pieces) == *expected,
                 "{front:?}, {times} times, {end:?}"
             );
         }
     }
     Ok(())
+}
+
+#[test]
+fn heads_at_the_limits_and_of_two_faults(rt: HostRuntime) -> Result<(), Fail> {
+    expect_in_pieces(&rt, rt.alloc(), &AT_LIMITS)?;
+    expect_in_pieces(&rt, rt.alloc(), &OF_TWO_FAULTS)
 }
 
 const UPLOAD: &[u8] =
