@@ -68,20 +68,22 @@ fn a_backend_with_a_table_and_the_whole_program(rt: HostRuntime) -> Result<(), F
     Ok(())
 }
 
+/// Of each backend its balance, whether it has `forwardfor`, its limit of servers, and the weight of its first server.
+const DEFAULTS: [(Balance, bool, Option<u32>, u16); 5] = [
+    (Balance::RoundRobin, false, None, 0),
+    (Balance::First, true, Some(7), 9),
+    (Balance::LeastConnections, true, Some(7), 0),
+    (Balance::First, true, Some(7), 0),
+    (Balance::RoundRobin, false, None, 1),
+];
+
 #[test]
 fn defaults_reach_up_to_the_next_ones(rt: HostRuntime) -> Result<(), Fail> {
     let text =
         b"backend a\ndefaults\nbalance first\ntimeout client 5s\ntimeout server 7\noption forwardfor\ndefault-server weight 9\nbackend b\nserver s 1.2.3.4:1\nbackend c\nbalance leastconn\nlisten l\nbind :80\ndefaults\ntimeout client 6s\nfrontend f\nbackend d\nserver s 1.2.3.4:1\n";
     let config = config(&rt, rt.alloc(), text);
-    let wanted = [
-        (Balance::RoundRobin, false, None, 0),
-        (Balance::First, true, Some(7), 9),
-        (Balance::LeastConnections, true, Some(7), 0),
-        (Balance::First, true, Some(7), 0),
-        (Balance::RoundRobin, false, None, 1),
-    ];
     let count = config.backends().len();
-    for (backend, wanted) in config.backends().iter().zip(wanted.iter()) {
+    for (backend, wanted) in config.backends().iter().zip(DEFAULTS.iter()) {
         let weight = match backend.servers().first() {
             Some(server) => server.settings().weight,
             None => 0,
@@ -108,19 +110,21 @@ fn defaults_reach_up_to_the_next_ones(rt: HostRuntime) -> Result<(), Fail> {
     Ok(())
 }
 
+/// Of each frontend the backend of a GET and of a PUT.
+const CHOSEN: [(Option<usize>, Option<usize>); 4] = [
+    (Some(0), Some(2)),
+    (Some(2), Some(2)),
+    (Some(0), None),
+    (Some(2), Some(1)),
+];
+
 #[test]
 fn requests_go_to_their_backends_and_rules_know_their_servers(rt: HostRuntime) -> Result<(), Fail> {
     let text =
         b"listen own\nuse_backend b if { method PUT }\nlisten other\ndefault_backend b\nfrontend none\nuse_backend own if { method GET }\nfrontend f\nuse_backend b if get\nuse_backend own if get\nacl get method GET\ndefault_backend other\nbackend b\n";
     let chosen = config(&rt, rt.alloc(), text);
-    let wanted = [
-        (Some(0), Some(2)),
-        (Some(2), Some(2)),
-        (Some(0), None),
-        (Some(2), Some(1)),
-    ];
     let count = chosen.frontends().len();
-    for (frontend, wanted) in chosen.frontends().iter().zip(wanted.iter()) {
+    for (frontend, wanted) in chosen.frontends().iter().zip(CHOSEN.iter()) {
         let found = (
             frontend.backend_of(&head("GET")),
             frontend.backend_of(&head("PUT")),
@@ -146,37 +150,38 @@ fn requests_go_to_their_backends_and_rules_know_their_servers(rt: HostRuntime) -
     Ok(())
 }
 
+/// A text, and the limits of a dial, of the queue and of a check.
+const LIMITS: [(&[u8], Option<u32>, Option<u32>, Option<u32>); 5] = [
+    (b"backend w\nserver a 1.2.3.4:1", None, None, Some(2000)),
+    (
+        b"backend w\ntimeout connect 3s\nserver a 1.2.3.4:1 inter 5",
+        Some(3000),
+        Some(3000),
+        Some(5),
+    ),
+    (
+        b"backend w\ntimeout connect 0\ntimeout check 0\nserver a 1.2.3.4:1 inter 0",
+        None,
+        None,
+        None,
+    ),
+    (
+        b"backend w\ntimeout connect 1\ntimeout queue 0\nserver a 1.2.3.4:1",
+        Some(1),
+        Some(0),
+        Some(2000),
+    ),
+    (
+        b"backend w\ntimeout queue 4\ntimeout check 6\nserver a 1.2.3.4:1",
+        None,
+        Some(4),
+        Some(6),
+    ),
+];
+
 #[test]
 fn limits_of_times(rt: HostRuntime) -> Result<(), Fail> {
-    // The text, then the limits of a dial, of the queue and of a check.
-    let cases: [(&[u8], Option<u32>, Option<u32>, Option<u32>); 5] = [
-        (b"backend w\nserver a 1.2.3.4:1", None, None, Some(2000)),
-        (
-            b"backend w\ntimeout connect 3s\nserver a 1.2.3.4:1 inter 5",
-            Some(3000),
-            Some(3000),
-            Some(5),
-        ),
-        (
-            b"backend w\ntimeout connect 0\ntimeout check 0\nserver a 1.2.3.4:1 inter 0",
-            None,
-            None,
-            None,
-        ),
-        (
-            b"backend w\ntimeout connect 1\ntimeout queue 0\nserver a 1.2.3.4:1",
-            Some(1),
-            Some(0),
-            Some(2000),
-        ),
-        (
-            b"backend w\ntimeout queue 4\ntimeout check 6\nserver a 1.2.3.4:1",
-            None,
-            Some(4),
-            Some(6),
-        ),
-    ];
-    for (text, connect, queue, check) in cases {
+    for (text, connect, queue, check) in LIMITS {
         let config = config(&rt, rt.alloc(), text);
         let Some(backend) = config.backends().first() else {
             panic!(&rt; "no backend");

@@ -30,23 +30,27 @@ fn rules_of(rt: &impl Abort, alloc: Global, text: &[u8]) -> Result<(FrontRules, 
     Ok(read_rules(alloc, &backends, &servers, settings)?)
 }
 
+const MANY: &[u8] =
+    b"frontend f\nbind *:80\nbind :81\nuse_backend b if post up\nuse_backend a if get or { path /both }\nuse_backend b unless !up\nacl get method GET\nacl post method POST\nacl up path_beg /up\nacl get method HEAD";
+
+/// A rule without a condition always applies.
+const BARE: &[u8] = b"frontend f\nuse_backend a if { method GET }\nuse_backend b";
+
+/// A text, how many addresses it binds, a request, and its backend.
+const CHOICES: [(&[u8], usize, &str, &str, Option<usize>); 8] = [
+    (MANY, 2, "POST", "/up", Some(1)),
+    (MANY, 2, "GET", "/up", Some(0)),
+    (MANY, 2, "HEAD", "/", Some(0)),
+    (MANY, 2, "PUT", "/both", Some(0)),
+    (MANY, 2, "PUT", "/upper", Some(1)),
+    (MANY, 2, "POST", "/", None),
+    (BARE, 0, "GET", "/", Some(0)),
+    (BARE, 0, "PUT", "/", Some(1)),
+];
+
 #[test]
 fn the_first_rule_that_applies_names_the_backend(rt: HostRuntime) -> Result<(), Fail> {
-    let many =
-        b"frontend f\nbind *:80\nbind :81\nuse_backend b if post up\nuse_backend a if get or { path /both }\nuse_backend b unless !up\nacl get method GET\nacl post method POST\nacl up path_beg /up\nacl get method HEAD";
-    // A rule without a condition always applies.
-    let bare = b"frontend f\nuse_backend a if { method GET }\nuse_backend b";
-    let rows: [(&[u8], usize, &str, &str, Option<usize>); 8] = [
-        (many, 2, "POST", "/up", Some(1)),
-        (many, 2, "GET", "/up", Some(0)),
-        (many, 2, "HEAD", "/", Some(0)),
-        (many, 2, "PUT", "/both", Some(0)),
-        (many, 2, "PUT", "/upper", Some(1)),
-        (many, 2, "POST", "/", None),
-        (bare, 0, "GET", "/", Some(0)),
-        (bare, 0, "PUT", "/", Some(1)),
-    ];
-    for (text, binds, method, target, wanted) in rows {
+    for (text, binds, method, target, wanted) in CHOICES {
         let (front, _) = rules_of(&rt, rt.alloc(), text)?;
         let backend = chosen(front.choices(), &head(method, target));
         assert_eq!(rt;
@@ -74,6 +78,16 @@ fn is_table(rules: &BackRules, size: u32, key: Option<usize>) -> bool {
     has_size && has_key
 }
 
+/// A text, the size of its table, and of how many bytes its keys are, where it has one.
+const TABLES: [(&[u8], u32, Option<usize>); 2] = [
+    (
+        b"backend web\n  stick on hdr(x-id)\n  stick-table type string size 10",
+        10,
+        Some(32),
+    ),
+    (b"backend web\nstick-table type ip size 1k", 1024, None),
+];
+
 #[test]
 fn servers_costs_and_keys_by_their_rules(rt: HostRuntime) -> Result<(), Fail> {
     let text =
@@ -92,15 +106,7 @@ fn servers_costs_and_keys_by_their_rules(rt: HostRuntime) -> Result<(), Fail> {
         let is_so = wanted.as_slice() == servers && pin_cost(back.pin_costs(), &head) == cost;
         assert!(rt; is_so, "{method} {target}");
     }
-    let rows: [(&[u8], u32, Option<usize>); 2] = [
-        (
-            b"backend web\n  stick on hdr(x-id)\n  stick-table type string size 10",
-            10,
-            Some(32),
-        ),
-        (b"backend web\nstick-table type ip size 1k", 1024, None),
-    ];
-    for (text, size, key) in rows {
+    for (text, size, key) in TABLES {
         let (_, back) = rules_of(&rt, rt.alloc(), text)?;
         assert!(rt; is_table(&back, size, key), "{text:?}");
     }

@@ -40,161 +40,163 @@ fn is_fault(fault: &Option<ConfigFault>, wanted: Option<(u32, u16, &[u8])>) -> b
     }
 }
 
+/// Texts, and the line, the number and the word of their first fault.
+const FAULTS: [(Reader, &[u8], Option<(u32, u16, &[u8])>); 38] = [
+    (
+        Reader::Text,
+        b"backend web\n  balance uri",
+        Some((2, 29, b"uri")),
+    ),
+    (
+        Reader::Text,
+        b"backend web\n  server a 127.0.0.1",
+        Some((2, 23, b"")),
+    ),
+    (Reader::Text, b"server a 127.0.0.1:1", Some((1, 21, b""))),
+    (Reader::Text, b"log x", Some((1, 21, b""))),
+    (Reader::Text, b"peers x", Some((1, 29, b"peers"))),
+    (Reader::Text, b"global\nfoo \"x", Some((2, 22, b""))),
+    (Reader::Text, b"global\n\"x", Some((2, 23, b""))),
+    (Reader::Text, b"global\n\\x", Some((2, 29, b"\\"))),
+    (Reader::Text, b"global\n\"$\"", Some((2, 29, b"$"))),
+    (
+        Reader::Text,
+        b"backend a\nfrontend b\nbackend a from x",
+        Some((3, 26, b"")),
+    ),
+    (
+        Reader::Text,
+        b"listen a\nserver s 1.2.3.4:1\nserver s 'x",
+        Some((3, 26, b"")),
+    ),
+    (
+        Reader::Text,
+        b"backend a\nstick on src\nstick 'x",
+        Some((3, 29, b"stick")),
+    ),
+    (Reader::Text, b"backend a b", Some((1, 22, b""))),
+    (
+        Reader::Text,
+        b"backend a/b\nbackend a/b",
+        Some((1, 25, b"")),
+    ),
+    (Reader::Text, b"defaults\nbind *:1", Some((2, 22, b""))),
+    (Reader::Text, b"listen a\nmode tcp", Some((2, 29, b"tcp"))),
+    (
+        Reader::Text,
+        b"backend a\nserver b 1.2.3.4:1 weight 257",
+        Some((2, 24, b"")),
+    ),
+    // The text as a whole comes first.
+    (Reader::Text, b"foo\n\xff", Some((2, 20, b""))),
+    (
+        Reader::Text,
+        b"backend a\n\nfrontend c\r\n# \n x y",
+        Some((5, 22, b"")),
+    ),
+    (
+        Reader::Checked,
+        b"frontend f\ndefault_backend web",
+        Some((2, 27, b"")),
+    ),
+    (
+        Reader::Checked,
+        b"frontend f\ndefault_backend web\nbackend web",
+        None,
+    ),
+    (
+        Reader::Checked,
+        b"frontend f\ndefault_backend web\nlisten web",
+        None,
+    ),
+    (
+        Reader::Checked,
+        b"frontend f\ndefault_backend g\nfrontend g",
+        Some((2, 27, b"")),
+    ),
+    (
+        Reader::Checked,
+        b"frontend f\nuse_backend web",
+        Some((2, 27, b"")),
+    ),
+    (
+        Reader::Checked,
+        b"frontend f\nuse_backend web if a\nacl a path /x\nbackend web",
+        None,
+    ),
+    (
+        Reader::Checked,
+        b"frontend f\nuse_backend web if a !b\nacl a path /x\nbackend web",
+        Some((2, 27, b"")),
+    ),
+    (
+        Reader::Checked,
+        b"frontend f\nuse_backend web if { path /x }\nbackend web",
+        None,
+    ),
+    // An ACL of another section is none.
+    (
+        Reader::Checked,
+        b"frontend f\nacl a path /x\nbackend web\npin-cost 2 if a",
+        Some((4, 27, b"")),
+    ),
+    (
+        Reader::Checked,
+        b"backend web\nuse-server s if { path /x }\nserver s 1.2.3.4:5",
+        None,
+    ),
+    (
+        Reader::Checked,
+        b"backend web\nuse-server s if { path /x }\nserver t 1.2.3.4:5",
+        Some((2, 27, b"")),
+    ),
+    (
+        Reader::Checked,
+        b"backend web\nstick on src",
+        Some((2, 23, b"")),
+    ),
+    (
+        Reader::Checked,
+        b"backend web\nstick on src\nstick-table type ip size 1k",
+        None,
+    ),
+    (
+        Reader::Checked,
+        b"defaults\ndefault_backend web\ndefaults",
+        Some((2, 27, b"")),
+    ),
+    // The first reference to nothing, whichever kind it is.
+    (
+        Reader::Checked,
+        b"backend web\nstick on src\nfrontend f\nuse_backend x",
+        Some((2, 23, b"")),
+    ),
+    // A line's own fault comes before any reference.
+    (
+        Reader::Checked,
+        b"frontend f\ndefault_backend web\nfoo",
+        Some((3, 22, b"")),
+    ),
+    (
+        Reader::Config,
+        b"backend web\nbalance uri",
+        Some((2, 29, b"uri")),
+    ),
+    (
+        Reader::Config,
+        b"frontend f\ndefault_backend web",
+        Some((2, 27, b"")),
+    ),
+    (
+        Reader::Config,
+        b"backend web\nstick on src",
+        Some((2, 23, b"")),
+    ),
+];
+
 #[test]
 fn the_first_fault_of_a_text_and_references_last(rt: HostRuntime) {
-    let rows: [(Reader, &[u8], Option<(u32, u16, &[u8])>); 38] = [
-        (
-            Reader::Text,
-            b"backend web\n  balance uri",
-            Some((2, 29, b"uri")),
-        ),
-        (
-            Reader::Text,
-            b"backend web\n  server a 127.0.0.1",
-            Some((2, 23, b"")),
-        ),
-        (Reader::Text, b"server a 127.0.0.1:1", Some((1, 21, b""))),
-        (Reader::Text, b"log x", Some((1, 21, b""))),
-        (Reader::Text, b"peers x", Some((1, 29, b"peers"))),
-        (Reader::Text, b"global\nfoo \"x", Some((2, 22, b""))),
-        (Reader::Text, b"global\n\"x", Some((2, 23, b""))),
-        (Reader::Text, b"global\n\\x", Some((2, 29, b"\\"))),
-        (Reader::Text, b"global\n\"$\"", Some((2, 29, b"$"))),
-        (
-            Reader::Text,
-            b"backend a\nfrontend b\nbackend a from x",
-            Some((3, 26, b"")),
-        ),
-        (
-            Reader::Text,
-            b"listen a\nserver s 1.2.3.4:1\nserver s 'x",
-            Some((3, 26, b"")),
-        ),
-        (
-            Reader::Text,
-            b"backend a\nstick on src\nstick 'x",
-            Some((3, 29, b"stick")),
-        ),
-        (Reader::Text, b"backend a b", Some((1, 22, b""))),
-        (
-            Reader::Text,
-            b"backend a/b\nbackend a/b",
-            Some((1, 25, b"")),
-        ),
-        (Reader::Text, b"defaults\nbind *:1", Some((2, 22, b""))),
-        (Reader::Text, b"listen a\nmode tcp", Some((2, 29, b"tcp"))),
-        (
-            Reader::Text,
-            b"backend a\nserver b 1.2.3.4:1 weight 257",
-            Some((2, 24, b"")),
-        ),
-        // The text as a whole comes first.
-        (Reader::Text, b"foo\n\xff", Some((2, 20, b""))),
-        (
-            Reader::Text,
-            b"backend a\n\nfrontend c\r\n# \n x y",
-            Some((5, 22, b"")),
-        ),
-        (
-            Reader::Checked,
-            b"frontend f\ndefault_backend web",
-            Some((2, 27, b"")),
-        ),
-        (
-            Reader::Checked,
-            b"frontend f\ndefault_backend web\nbackend web",
-            None,
-        ),
-        (
-            Reader::Checked,
-            b"frontend f\ndefault_backend web\nlisten web",
-            None,
-        ),
-        (
-            Reader::Checked,
-            b"frontend f\ndefault_backend g\nfrontend g",
-            Some((2, 27, b"")),
-        ),
-        (
-            Reader::Checked,
-            b"frontend f\nuse_backend web",
-            Some((2, 27, b"")),
-        ),
-        (
-            Reader::Checked,
-            b"frontend f\nuse_backend web if a\nacl a path /x\nbackend web",
-            None,
-        ),
-        (
-            Reader::Checked,
-            b"frontend f\nuse_backend web if a !b\nacl a path /x\nbackend web",
-            Some((2, 27, b"")),
-        ),
-        (
-            Reader::Checked,
-            b"frontend f\nuse_backend web if { path /x }\nbackend web",
-            None,
-        ),
-        // An ACL of another section is none.
-        (
-            Reader::Checked,
-            b"frontend f\nacl a path /x\nbackend web\npin-cost 2 if a",
-            Some((4, 27, b"")),
-        ),
-        (
-            Reader::Checked,
-            b"backend web\nuse-server s if { path /x }\nserver s 1.2.3.4:5",
-            None,
-        ),
-        (
-            Reader::Checked,
-            b"backend web\nuse-server s if { path /x }\nserver t 1.2.3.4:5",
-            Some((2, 27, b"")),
-        ),
-        (
-            Reader::Checked,
-            b"backend web\nstick on src",
-            Some((2, 23, b"")),
-        ),
-        (
-            Reader::Checked,
-            b"backend web\nstick on src\nstick-table type ip size 1k",
-            None,
-        ),
-        (
-            Reader::Checked,
-            b"defaults\ndefault_backend web\ndefaults",
-            Some((2, 27, b"")),
-        ),
-        // The first reference to nothing, whichever kind it is.
-        (
-            Reader::Checked,
-            b"backend web\nstick on src\nfrontend f\nuse_backend x",
-            Some((2, 23, b"")),
-        ),
-        // A line's own fault comes before any reference.
-        (
-            Reader::Checked,
-            b"frontend f\ndefault_backend web\nfoo",
-            Some((3, 22, b"")),
-        ),
-        (
-            Reader::Config,
-            b"backend web\nbalance uri",
-            Some((2, 29, b"uri")),
-        ),
-        (
-            Reader::Config,
-            b"frontend f\ndefault_backend web",
-            Some((2, 27, b"")),
-        ),
-        (
-            Reader::Config,
-            b"backend web\nstick on src",
-            Some((2, 23, b"")),
-        ),
-    ];
-    for (reader, text, wanted) in rows {
+    for (reader, text, wanted) in FAULTS {
         let fault = first_fault(reader, rt.alloc(), text);
         assert!(rt; is_fault(&fault, wanted), "{reader:?} {text:?}");
     }
@@ -254,21 +256,23 @@ fn shown(alloc: Global, sections: &Sections) -> Result<String, AllocError> {
     Ok(text)
 }
 
+/// Texts, and their sections and warnings as `shown` tells them.
+const SECTIONS: [(&[u8], &str); 2] = [
+    (
+        b"global\n  log 127.0.0.1 local0\n  ca-base /c\n  stats socket /run/lb mode 600\nlisten web\n  bind *:8080\n  option 'httplog' \"x\n  server a localhost:8001\n  timeout tunnel 1h",
+        "Global 4;Listen web 6 8 a;2 log;3 ca-base;4 stats socket;7 option httplog;9 timeout tunnel;",
+    ),
+    (
+        b"defaults\nmode http\nlisten web\n\nbind *:80\nserver a 1.2.3.4:5\nbackend other\ndefaults\nglobal",
+        "Defaults 2;Listen web 5 6 a;Backend other;Defaults;Global;",
+    ),
+];
+
 #[test]
 fn settings_stand_in_their_sections_and_ignored_lines_have_warnings(
     rt: HostRuntime,
 ) -> Result<(), Fail> {
-    let rows: [(&[u8], &str); 2] = [
-        (
-            b"global\n  log 127.0.0.1 local0\n  ca-base /c\n  stats socket /run/lb mode 600\nlisten web\n  bind *:8080\n  option 'httplog' \"x\n  server a localhost:8001\n  timeout tunnel 1h",
-            "Global 4;Listen web 6 8 a;2 log;3 ca-base;4 stats socket;7 option httplog;9 timeout tunnel;",
-        ),
-        (
-            b"defaults\nmode http\nlisten web\n\nbind *:80\nserver a 1.2.3.4:5\nbackend other\ndefaults\nglobal",
-            "Defaults 2;Listen web 5 6 a;Backend other;Defaults;Global;",
-        ),
-    ];
-    for (text, wanted) in rows {
+    for (text, wanted) in SECTIONS {
         let sections = sections_of(&rt, rt.alloc(), text);
         let shown = shown(rt.alloc(), &sections)?;
         assert_eq!(rt; shown.as_str(), wanted, "{text:?}");

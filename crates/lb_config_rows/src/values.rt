@@ -96,50 +96,54 @@ fn a_server_has_its_line_and_the_defaults_of_the_manual(rt: HostRuntime) -> Resu
     Ok(())
 }
 
+/// Texts of three servers, and the weight, `rise` and `fall` of each.
+const DEFAULT_SERVERS: [(&[u8], [(u16, u16, u16); 3]); 3] = [
+    (
+        b"backend web\nserver a 1.2.3.4:1\ndefault-server weight 5 check\nserver b 1.2.3.4:1\ndefault-server rise 4\nserver c 1.2.3.4:1 weight 9 fall 7",
+        [(1, 0, 0), (5, 2, 3), (9, 4, 7)],
+    ),
+    (
+        b"defaults\ndefault-server weight 3 rise 5 check\nbackend web\nserver a 1.2.3.4:1\ndefault-server weight 6\nserver b 1.2.3.4:1\nserver c 1.2.3.4:1 rise 1",
+        [(3, 5, 3), (6, 5, 3), (6, 1, 3)],
+    ),
+    // Those behind the servers count for nobody.
+    (
+        b"backend web\nserver a 1.2.3.4:1\nserver b 1.2.3.4:1 weight 0\nserver c 1.2.3.4:1\ndefault-server weight 5",
+        [(1, 0, 0), (0, 0, 0), (1, 0, 0)],
+    ),
+];
+
+/// Texts, and how often the first server is checked, and by which request line and fields.
+const CHECKS: [(&[u8], u32, &[u8], &[u8]); 3] = [
+    (
+        b"backend web\nserver a 127.0.0.1:80 check inter 1500us\noption httpchk",
+        2,
+        b"OPTIONS / HTTP/1.0\r\n",
+        b"\r\n",
+    ),
+    (
+        b"defaults\noption httpchk /x\nbackend web\nserver a localhost:80\noption httpchk GET /up HTTP/1.1",
+        2000,
+        b"GET /up HTTP/1.1\r\n",
+        b"Host: 127.0.0.1:80\r\n\r\n",
+    ),
+    (
+        b"defaults\noption httpchk /y\noption httpchk /x\ndefault-server inter 3s\nbackend web\nserver a localhost:80",
+        3000,
+        b"OPTIONS /x HTTP/1.0\r\n",
+        b"\r\n",
+    ),
+];
+
 #[test]
 fn a_default_server_counts_for_the_servers_behind_it_and_what_a_check_sends(
     rt: HostRuntime,
 ) -> Result<(), Fail> {
-    let cases: [(&[u8], [(u16, u16, u16); 3]); 3] = [
-        (
-            b"backend web\nserver a 1.2.3.4:1\ndefault-server weight 5 check\nserver b 1.2.3.4:1\ndefault-server rise 4\nserver c 1.2.3.4:1 weight 9 fall 7",
-            [(1, 0, 0), (5, 2, 3), (9, 4, 7)],
-        ),
-        (
-            b"defaults\ndefault-server weight 3 rise 5 check\nbackend web\nserver a 1.2.3.4:1\ndefault-server weight 6\nserver b 1.2.3.4:1\nserver c 1.2.3.4:1 rise 1",
-            [(3, 5, 3), (6, 5, 3), (6, 1, 3)],
-        ),
-        // Those behind the servers count for nobody.
-        (
-            b"backend web\nserver a 1.2.3.4:1\nserver b 1.2.3.4:1 weight 0\nserver c 1.2.3.4:1\ndefault-server weight 5",
-            [(1, 0, 0), (0, 0, 0), (1, 0, 0)],
-        ),
-    ];
-    for (text, wanted) in cases {
+    for (text, wanted) in DEFAULT_SERVERS {
         let numbers = numbers_of(&rt, rt.alloc(), text)?;
         assert_eq!(rt; numbers.as_slice(), wanted.as_slice(), "{text:?}");
     }
-    let checks: [(&[u8], u32, &[u8], &[u8]); 3] = [
-        (
-            b"backend web\nserver a 127.0.0.1:80 check inter 1500us\noption httpchk",
-            2,
-            b"OPTIONS / HTTP/1.0\r\n",
-            b"\r\n",
-        ),
-        (
-            b"defaults\noption httpchk /x\nbackend web\nserver a localhost:80\noption httpchk GET /up HTTP/1.1",
-            2000,
-            b"GET /up HTTP/1.1\r\n",
-            b"Host: 127.0.0.1:80\r\n\r\n",
-        ),
-        (
-            b"defaults\noption httpchk /y\noption httpchk /x\ndefault-server inter 3s\nbackend web\nserver a localhost:80",
-            3000,
-            b"OPTIONS /x HTTP/1.0\r\n",
-            b"\r\n",
-        ),
-    ];
-    for (text, interval, line, fields) in checks {
+    for (text, interval, line, fields) in CHECKS {
         let servers = servers_of(&rt, rt.alloc(), text)?;
         let Some(server) = servers.first() else {
             panic!(&rt; "no server in {text:?}");

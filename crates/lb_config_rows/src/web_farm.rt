@@ -129,6 +129,19 @@ fn head<'a>(
     )
 }
 
+/// Requests, who sends them, and the backend that they go to.
+const REQUESTS: [(&str, &str, [u8; 4], usize); 9] = [
+    ("GET", "/", ELSEWHERE, PAGES),
+    ("GET", "/api/basket?x=1", ELSEWHERE, API),
+    ("POST", "/api", ELSEWHERE, PAGES),
+    ("GET", "/big.JPG?width=9", ELSEWHERE, PICTURES),
+    ("POST", "/big.jpg", ELSEWHERE, PAGES),
+    ("HEAD", "/api/a.png", ELSEWHERE, API),
+    ("GET", "/staff", ELSEWHERE, CLOSED),
+    ("GET", "/staff", OFFICE, PAGES),
+    ("GET", "/staff/a.webp", OFFICE, PICTURES),
+];
+
 #[test]
 fn the_process_and_the_backends_of_requests(rt: HostRuntime) -> Result<(), Fail> {
     let config = web_farm(&rt, rt.alloc());
@@ -160,18 +173,7 @@ fn the_process_and_the_backends_of_requests(rt: HostRuntime) -> Result<(), Fail>
         shop.client_limit(),
     );
     assert_eq!(rt; found, (2, 5, 2, Some(30000)));
-    let cases = [
-        ("GET", "/", ELSEWHERE, PAGES),
-        ("GET", "/api/basket?x=1", ELSEWHERE, API),
-        ("POST", "/api", ELSEWHERE, PAGES),
-        ("GET", "/big.JPG?width=9", ELSEWHERE, PICTURES),
-        ("POST", "/big.jpg", ELSEWHERE, PAGES),
-        ("HEAD", "/api/a.png", ELSEWHERE, API),
-        ("GET", "/staff", ELSEWHERE, CLOSED),
-        ("GET", "/staff", OFFICE, PAGES),
-        ("GET", "/staff/a.webp", OFFICE, PICTURES),
-    ];
-    for (method, target, source, wanted) in cases {
+    for (method, target, source, wanted) in REQUESTS {
         let head = head(method, target, &[], source);
         let found = (shop.backend_of(&head), tools.backend_of(&head));
         assert_eq!(rt; found, (Some(wanted), Some(TOOLS)), "{target}");
@@ -179,21 +181,22 @@ fn the_process_and_the_backends_of_requests(rt: HostRuntime) -> Result<(), Fail>
     Ok(())
 }
 
+/// Of each server of the pages what the configuration gives to pins, its weight, and whether it stands by.
+const SERVERS: [(u32, u16, bool); 5] = [
+    (200000, 1, false),
+    (200000, 1, false),
+    (200000, 2, false),
+    (50000, 1, false),
+    (1048576, 1, true),
+];
+
 #[test]
 fn servers_of_the_pages_and_of_the_others(rt: HostRuntime) -> Result<(), Fail> {
     let config = web_farm(&rt, rt.alloc());
     let pages = backend(&rt, &config, PAGES);
-    // Of each server what the configuration gives to pins, its weight, and whether it stands by.
-    let wanted = [
-        (200000, 1, false),
-        (200000, 1, false),
-        (200000, 2, false),
-        (50000, 1, false),
-        (1048576, 1, true),
-    ];
     let found = (pages.balance(), pages.evacuate(), pages.servers().len());
     assert_eq!(rt; found, (Balance::RoundRobin, true, 5));
-    for (server, wanted) in pages.servers().iter().zip(wanted.iter()) {
+    for (server, wanted) in pages.servers().iter().zip(SERVERS.iter()) {
         let settings = server.settings();
         let found = (settings.max_pins, settings.weight, settings.backup);
         let is_so = found == *wanted

@@ -43,26 +43,28 @@ fn shape(alloc: Global, cond: &UnresolvedCond) -> Result<String, AllocError> {
     Ok(text)
 }
 
+/// Rules, and the shape and polarity of their conditions.
+const CONDITIONS: [(&str, &str, Polarity); 15] = [
+    ("s if a", "a", Polarity::If),
+    ("s if a b or c", "a&b|c", Polarity::If),
+    ("s if a or b c", "a|b&c", Polarity::If),
+    ("s if a || b || c d", "a|b|c&d", Polarity::If),
+    ("s if !a", "!a", Polarity::If),
+    ("s if ! a", "!a", Polarity::If),
+    ("s if !!a", "a", Polarity::If),
+    ("s if ! !a", "a", Polarity::If),
+    ("s if ! ! ! a b", "!a&b", Polarity::If),
+    ("s if !a or !b", "!a|!b", Polarity::If),
+    ("s if and", "and", Polarity::If),
+    ("s if { path / } a", "{}&a", Polarity::If),
+    ("s if !{ path / or } or a", "!{}|a", Polarity::If),
+    ("s if ! { path -i -- -x } b", "!{}&b", Polarity::If),
+    ("s unless a", "a", Polarity::Unless),
+];
+
 #[test]
 fn or_separates_weaker_than_and(rt: HostRuntime) -> Result<(), Fail> {
-    let rows = [
-        ("s if a", "a", Polarity::If),
-        ("s if a b or c", "a&b|c", Polarity::If),
-        ("s if a or b c", "a|b&c", Polarity::If),
-        ("s if a || b || c d", "a|b|c&d", Polarity::If),
-        ("s if !a", "!a", Polarity::If),
-        ("s if ! a", "!a", Polarity::If),
-        ("s if !!a", "a", Polarity::If),
-        ("s if ! !a", "a", Polarity::If),
-        ("s if ! ! ! a b", "!a&b", Polarity::If),
-        ("s if !a or !b", "!a|!b", Polarity::If),
-        ("s if and", "and", Polarity::If),
-        ("s if { path / } a", "{}&a", Polarity::If),
-        ("s if !{ path / or } or a", "!{}|a", Polarity::If),
-        ("s if ! { path -i -- -x } b", "!{}&b", Polarity::If),
-        ("s unless a", "a", Polarity::Unless),
-    ];
-    for (line, wanted, polarity) in rows {
+    for (line, wanted, polarity) in CONDITIONS {
         let read = cond(rt.alloc(), line)?;
         let shape = shape(rt.alloc(), &read)?;
         assert_eq!(rt;
@@ -91,13 +93,24 @@ fn pattern<'a>(sample: &'a KeySample) -> (&'static str, &'a [u8]) {
     }
 }
 
+/// ACLs with their name and kind.
+const ACLS: [(&str, &[u8], &str); 2] = [
+    ("local src 10.0.0.0/8 127.0.0.1", b"local", "source"),
+    ("image path_end -i .JPG .png", b"image", "text"),
+];
+
+/// Patterns with what they take and its name.
+const PATTERNS: [(&str, (&str, &[u8])); 5] = [
+    ("src", ("source", b"")),
+    ("hdr(x-id)", ("field", b"x-id")),
+    ("req.hdr(Host)", ("field", b"Host")),
+    ("cook(s)", ("cookie", b"s")),
+    ("req.cook(SERVERID)", ("cookie", b"SERVERID")),
+];
+
 #[test]
 fn acls_have_a_name_and_a_kind_and_patterns_a_name(rt: HostRuntime) -> Result<(), Fail> {
-    let acls: [(&str, &[u8], &str); 2] = [
-        ("local src 10.0.0.0/8 127.0.0.1", b"local", "source"),
-        ("image path_end -i .JPG .png", b"image", "text"),
-    ];
-    for (text, name, kind) in acls {
+    for (text, name, kind) in ACLS {
         let words = words_of(rt.alloc(), text)?;
         let read = read_declaration(&mut Words::new(rt.alloc(), &words, None))?;
         assert!(rt;
@@ -105,15 +118,8 @@ fn acls_have_a_name_and_a_kind_and_patterns_a_name(rt: HostRuntime) -> Result<()
             "{text}"
         );
     }
-    let patterns: [(&str, (&str, &[u8])); 5] = [
-        ("src", ("source", b"")),
-        ("hdr(x-id)", ("field", b"x-id")),
-        ("req.hdr(Host)", ("field", b"Host")),
-        ("cook(s)", ("cookie", b"s")),
-        ("req.cook(SERVERID)", ("cookie", b"SERVERID")),
-    ];
     let none = Words::new(rt.alloc(), &[], None);
-    for (word, wanted) in patterns {
+    for (word, wanted) in PATTERNS {
         let sample = read_pattern(&none, word.as_bytes())?;
         assert_eq!(rt; pattern(&sample), wanted, "{word}");
     }

@@ -21,37 +21,49 @@ fn first_fault(
     Ok(None)
 }
 
+/// Texts with their first fault.
+const NAMES: [(&[u8], Option<(u32, LimitFault)>); 18] = [
+    (b"backend a\nbackend b\nfrontend a\nfrontend b", None),
+    (
+        b"backend a\nfrontend b\nbackend a",
+        Some((3, LimitFault::Duplicate)),
+    ),
+    (b"frontend a\nfrontend a", Some((2, LimitFault::Duplicate))),
+    (b"listen a\nfrontend a", Some((2, LimitFault::Duplicate))),
+    (b"listen a\nbackend a", Some((2, LimitFault::Duplicate))),
+    (b"frontend a\nlisten a", Some((2, LimitFault::Duplicate))),
+    (b"backend a\nlisten a", Some((2, LimitFault::Duplicate))),
+    (b"listen a\nlisten a", Some((2, LimitFault::Duplicate))),
+    (b"defaults a\ndefaults a\nglobal\nglobal", None),
+    (b"backend a\nserver s x\nbackend b\nserver s x", None),
+    (
+        b"backend a\nserver s x\nserver t x\nserver s x",
+        Some((4, LimitFault::Duplicate)),
+    ),
+    // Before what is wrong behind the name.
+    (
+        b"backend a\nserver s x\nserver s 'x",
+        Some((3, LimitFault::Duplicate)),
+    ),
+    // Names differ by the case of a letter.
+    (b"backend a\nbackend A\nserver s x\nserver S x", None),
+    // What is no name is refused elsewhere.
+    (b"backend a/b\nbackend a/b\nbackend\nbackend", None),
+    (b"backend a\nstick on src\nbackend b\nstick on src", None),
+    (
+        b"backend a\nstick on src\nstick on src",
+        Some((3, LimitFault::SecondStick)),
+    ),
+    (
+        b"backend a\nstick on src\nstick",
+        Some((3, LimitFault::SecondStick)),
+    ),
+    (b"backend a\nstick-table type ip size 1\nstick on src", None),
+];
+
 #[test]
 fn names_are_declared_once_and_a_section_has_one_stick_on(rt: HostRuntime) -> Result<(), Fail> {
-    let duplicate = LimitFault::Duplicate;
-    let second = LimitFault::SecondStick;
-    let rows: [(&[u8], Option<(u32, LimitFault)>); 18] = [
-        (b"backend a\nbackend b\nfrontend a\nfrontend b", None),
-        (b"backend a\nfrontend b\nbackend a", Some((3, duplicate))),
-        (b"frontend a\nfrontend a", Some((2, duplicate))),
-        (b"listen a\nfrontend a", Some((2, duplicate))),
-        (b"listen a\nbackend a", Some((2, duplicate))),
-        (b"frontend a\nlisten a", Some((2, duplicate))),
-        (b"backend a\nlisten a", Some((2, duplicate))),
-        (b"listen a\nlisten a", Some((2, duplicate))),
-        (b"defaults a\ndefaults a\nglobal\nglobal", None),
-        (b"backend a\nserver s x\nbackend b\nserver s x", None),
-        (
-            b"backend a\nserver s x\nserver t x\nserver s x",
-            Some((4, duplicate)),
-        ),
-        // Before what is wrong behind the name.
-        (b"backend a\nserver s x\nserver s 'x", Some((3, duplicate))),
-        // Names differ by the case of a letter.
-        (b"backend a\nbackend A\nserver s x\nserver S x", None),
-        // What is no name is refused elsewhere.
-        (b"backend a/b\nbackend a/b\nbackend\nbackend", None),
-        (b"backend a\nstick on src\nbackend b\nstick on src", None),
-        (b"backend a\nstick on src\nstick on src", Some((3, second))),
-        (b"backend a\nstick on src\nstick", Some((3, second))),
-        (b"backend a\nstick-table type ip size 1\nstick on src", None),
-    ];
-    for (text, wanted) in rows {
+    for (text, wanted) in NAMES {
         assert_eq!(rt; first_fault(&rt, rt.alloc(), text)?, wanted, "{text:?}");
     }
     Ok(())
@@ -90,19 +102,20 @@ fn full_sections(alloc: Global) -> Result<Vec<u8>, Fail> {
     Ok(text)
 }
 
+/// How many lines there may be, and their beginning and end; the line too many is told before what is wrong behind its first word.
+const LIMITS: [(u32, &[u8], &[u8]); 7] = [
+    (64, b"backend a", b""),
+    (64, b"listen a", b""),
+    (128, b"server a", b" x"),
+    (256, b"acl a", b" src 1.2.3.4"),
+    (256, b"use_backend a", b""),
+    (256, b"use-server a", b" if x"),
+    (256, b"pin-cost ", b" if x"),
+];
+
 #[test]
 fn each_limit_at_its_boundary_and_the_fullest_texts(rt: HostRuntime) -> Result<(), Fail> {
-    // How many lines there may be, and their beginning and end; the line too many is told before what is wrong behind its first word.
-    let rows: [(u32, &[u8], &[u8]); 7] = [
-        (64, b"backend a", b""),
-        (64, b"listen a", b""),
-        (128, b"server a", b" x"),
-        (256, b"acl a", b" src 1.2.3.4"),
-        (256, b"use_backend a", b""),
-        (256, b"use-server a", b" if x"),
-        (256, b"pin-cost ", b" if x"),
-    ];
-    for (limit, before, behind) in rows {
+    for (limit, before, behind) in LIMITS {
         let mut text = Vec::new(rt.alloc());
         push_lines(rt.alloc(), &mut text, limit, before, behind)?;
         let most = first_fault(&rt, rt.alloc(), &text)?;

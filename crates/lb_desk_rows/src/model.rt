@@ -11,20 +11,22 @@ use pin_set::{KeyText, PinKey};
 use server_state::{AdminState, ServerSettings};
 use std::test::Fail;
 
+/// Refusals with their numbers.
+const NUMBERS: [(Refusal, u16); 9] = [
+    (Refusal::NoSuchServer, 10),
+    (Refusal::OutOfRange, 11),
+    (Refusal::NotChecked, 12),
+    (Refusal::Full, 30),
+    (Refusal::NotServing, 31),
+    (Refusal::NotOpen, 32),
+    (Refusal::Stale, 70),
+    (Refusal::Bad(CheckFault::NotShown), 71),
+    (Refusal::NoServer, 80),
+];
+
 #[test]
 fn refusals_have_their_numbers(rt: HostRuntime) {
-    let cases = [
-        (Refusal::NoSuchServer, 10),
-        (Refusal::OutOfRange, 11),
-        (Refusal::NotChecked, 12),
-        (Refusal::Full, 30),
-        (Refusal::NotServing, 31),
-        (Refusal::NotOpen, 32),
-        (Refusal::Stale, 70),
-        (Refusal::Bad(CheckFault::NotShown), 71),
-        (Refusal::NoServer, 80),
-    ];
-    for (refusal, number) in cases {
+    for (refusal, number) in NUMBERS {
         assert_eq!(rt; refusal.number(), number, "of {refusal:?}");
     }
 }

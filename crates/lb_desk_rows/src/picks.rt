@@ -322,6 +322,16 @@ fn a_server_with_as_many_pins_as_its_capacity_is_no_candidate(rt: HostRuntime) -
     Ok(())
 }
 
+/// Results of checks, and what each does.
+const RESULTS: [(bool, Flip); 6] = [
+    (true, Flip::Stays),
+    (false, Flip::Stays),
+    (false, Flip::Stays),
+    (false, Flip::WentDown),
+    (true, Flip::Stays),
+    (true, Flip::WentUp),
+];
+
 // At the start one failure is enough, behind a success it takes three in a row. Two successes bring it up.
 #[test]
 fn a_server_goes_down_and_up_by_its_results(rt: HostRuntime) -> Result<(), Fail> {
@@ -335,16 +345,8 @@ fn a_server_goes_down_and_up_by_its_results(rt: HostRuntime) -> Result<(), Fail>
         check: Some(CheckSettings { rise: 2, fall: 3 }),
     };
     let mut server = Server::at_start(rt.alloc(), &BackendServer { name, settings });
-    let cases = [
-        (true, Flip::Stays),
-        (false, Flip::Stays),
-        (false, Flip::Stays),
-        (false, Flip::WentDown),
-        (true, Flip::Stays),
-        (true, Flip::WentUp),
-    ];
     assert!(rt; server.serves());
-    for (ok, flip) in cases {
+    for (ok, flip) in RESULTS {
         assert_eq!(rt; server.take(ok)?, flip);
     }
     let after_the_checks = server.serves();

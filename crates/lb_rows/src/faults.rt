@@ -157,62 +157,64 @@ fn each_argument_is_accepted_or_has_its_fault(rt: HostRuntime) -> Result<(), Fai
     expect_lines(&rt, rt.alloc(), &NOWHERE)
 }
 
+/// Texts with several faults, and the one that is told.
+const FIRST: [(&str, &str); 12] = [
+    // By line, and in a line from the left.
+    (
+        "backend b\nserver a localhost:0 weight 999\nfoo",
+        "line 2: 24 BadNumber\n",
+    ),
+    (
+        "backend b\nserver a example.org:0 weight 999",
+        "line 2: 29 LeftOut example.org:0\n",
+    ),
+    // What a line declares goes before what is wrong behind it.
+    (
+        "backend b\nserver a localhost:1\nserver a 'x",
+        "line 3: 26 Duplicate\n",
+    ),
+    (
+        "backend b\nstick on src\nstick on src",
+        "line 3: 29 LeftOut stick\n",
+    ),
+    // Names are looked up when all lines are read, and then in the order of lines.
+    (
+        "frontend f\ndefault_backend web\nfoo",
+        "line 3: 22 UnknownWord\n",
+    ),
+    (
+        "backend b\nstick on src\nfrontend f\nuse_backend x",
+        "line 2: 23 Missing\n",
+    ),
+    (
+        "frontend f\nuse_backend x\nbackend b\nstick on src",
+        "line 2: 27 NoSuchName\n",
+    ),
+    // What is overridden or used by nobody is looked up as well.
+    (
+        "defaults\ndefault_backend web\ndefaults\nfrontend f\n",
+        "line 2: 27 NoSuchName\n",
+    ),
+    (
+        "frontend f\ndefault_backend web\ndefault_backend b\nbackend b\n",
+        "line 2: 27 NoSuchName\n",
+    ),
+    // A frontend is no backend, and each section has ACLs of its own.
+    (
+        "frontend f\ndefault_backend g\nfrontend g\n",
+        "line 2: 27 NoSuchName\n",
+    ),
+    (
+        "frontend f\nacl a path /\nbackend b\npin-cost 2 if a\n",
+        "line 4: 27 NoSuchName\n",
+    ),
+    (
+        "frontend f\nuse_backend b if a\nacl a path /\nlisten b\n",
+        VALID,
+    ),
+];
+
 #[test]
 fn of_several_faults_the_first_is_told(rt: HostRuntime) -> Result<(), Fail> {
-    let rows = [
-        // By line, and in a line from the left.
-        (
-            "backend b\nserver a localhost:0 weight 999\nfoo",
-            "line 2: 24 BadNumber\n",
-        ),
-        (
-            "backend b\nserver a example.org:0 weight 999",
-            "line 2: 29 LeftOut example.org:0\n",
-        ),
-        // What a line declares goes before what is wrong behind it.
-        (
-            "backend b\nserver a localhost:1\nserver a 'x",
-            "line 3: 26 Duplicate\n",
-        ),
-        (
-            "backend b\nstick on src\nstick on src",
-            "line 3: 29 LeftOut stick\n",
-        ),
-        // Names are looked up when all lines are read, and then in the order of lines.
-        (
-            "frontend f\ndefault_backend web\nfoo",
-            "line 3: 22 UnknownWord\n",
-        ),
-        (
-            "backend b\nstick on src\nfrontend f\nuse_backend x",
-            "line 2: 23 Missing\n",
-        ),
-        (
-            "frontend f\nuse_backend x\nbackend b\nstick on src",
-            "line 2: 27 NoSuchName\n",
-        ),
-        // What is overridden or used by nobody is looked up as well.
-        (
-            "defaults\ndefault_backend web\ndefaults\nfrontend f\n",
-            "line 2: 27 NoSuchName\n",
-        ),
-        (
-            "frontend f\ndefault_backend web\ndefault_backend b\nbackend b\n",
-            "line 2: 27 NoSuchName\n",
-        ),
-        // A frontend is no backend, and each section has ACLs of its own.
-        (
-            "frontend f\ndefault_backend g\nfrontend g\n",
-            "line 2: 27 NoSuchName\n",
-        ),
-        (
-            "frontend f\nacl a path /\nbackend b\npin-cost 2 if a\n",
-            "line 4: 27 NoSuchName\n",
-        ),
-        (
-            "frontend f\nuse_backend b if a\nacl a path /\nlisten b\n",
-            VALID,
-        ),
-    ];
-    expect_reports(&rt, rt.alloc(), &rows)
+    expect_reports(&rt, rt.alloc(), &FIRST)
 }
