@@ -8,17 +8,13 @@ use Rattle.std.proofs.Math.Seq.{map-set_same}
 use Rattle.rise_fall.specs.Tally.{Tally}
 use Rattle.pin_set.specs.declared.view.ViewServer.{ViewServer}
 use Rattle.pin_set.specs.Views.{ViewParts, view_of_parts}
-use Rattle.server_state.specs.declared.settings.AdminState.{AdminState}
-use Rattle.server_state.specs.declared.change.Setting.{Setting}
 use Rattle.server_state.specs.declared.change.Setting.TheVariants.{Admin, Health, Weight, MaxConnections, MaxPins}
 use Rattle.server_state.specs.Farm.{FarmView}
 use Rattle.server_state.specs.Server.{ServerView}
-use Rattle.lb_desk_model.specs.declared.event.Event.{Event}
-use Rattle.lb_desk_model.specs.declared.reply.Reply.{Reply}
 use Rattle.lb_desk_model.specs.declared.table_pin.TablePin.{TablePin}
 use Rattle.lb_desk_model.specs.States.{Checks, ServerState, State, SameView, farm_of, health_of, seen_server, usable, view_of, view_server, with_server}
 use Rattle.lb_desk_model.specs.Servers.{rewarmed, forced_to, leaves_maint}
-use Rattle.lb_desk_model.specs.Seen.{Seen, Acts, Next, named_server, seen, view_seen}
+use Rattle.lb_desk_model.specs.Seen.{Seen, named_server, seen, view_seen}
 use Rattle.lb_desk_law.proofs.Versions.{does-version}
 use Rattle.lb_desk_seen.specs.Changes.{SettingsAreSeen, ResultsAreSeen, ServersAreSeen, ConnectionsAreSeen, ViewsAreSeen, ActsAreCounted}
 
@@ -55,7 +51,7 @@ results_are_seen server checks ok = refl
 
 -- ---- one of them
 
-map_same : {A B : Type 0} (f : A → B) (xs : List A) (i : ℕ) (x y : A) → slice_get xs i ≡ Some x → f y ≡ f x
+pub map_same : {A B : Type 0} (f : A → B) (xs : List A) (i : ℕ) (x y : A) → slice_get xs i ≡ Some x → f y ≡ f x
     → map f (slice_set xs i y) ≡ map f xs
 map_same f xs i x y found same =
     map-set_same f xs i y x (same ∙ ap f (sym (get_or_from_slice_get xs i x x found)))
@@ -100,7 +96,7 @@ views_are_seen state =
 
 -- ---- steps
 
-views_shown : (state acted : State) (new : Seen) → seen acted ≡ new
+pub views_shown : (state acted : State) (new : Seen) → seen acted ≡ new
     → SameView (view_seen (seen state)) (view_seen new) ≡ SameView (view_of state) (view_of acted)
 views_shown state acted new shown =
     let there : view_seen new ≡ view_of acted = ap view_seen (sym shown) ∙ sym (views_are_seen acted) in

@@ -1,10 +1,9 @@
 -- What steps do to the numbers that a desk keeps.
-use Rattle.std.proofs.Common.{◌≡◌, ◌↔◌, ◌≤◌, ◌<◌, ◌⊎◌, ◌^◌, ℕ, ◌+◌, ◌-◌, zero, suc, Bool, true, false, not, ◌&&◌, leb, Option, Some, None, List, [], ◌∷◌, map, length, slice_get, slice_set, refl, sym, ap, ◌∙◌, inl, inr, arith}
+use Rattle.std.proofs.Common.{◌≡◌, ◌↔◌, ◌≤◌, ◌<◌, ◌⊎◌, ◌^◌, ℕ, ◌+◌, ◌-◌, zero, suc, Bool, true, false, not, ◌&&◌, leb, Some, List, [], ◌∷◌, map, length, slice_get, slice_set, refl, sym, ap, ◌∙◌, inl, inr, arith}
 use Rattle.std.specs.Prelude.{sum}
 use Rattle.std.specs.Option.{unwrap_or}
 use Rattle.std.proofs.lemmas.Bool.{leb-true, leb-false, false≢true}
 use Rattle.std.proofs.lemmas.List.Sums.{sum_by-cons, count_by-le-length}
-use Rattle.pin_set.specs.Views.{ViewParts}
 use Rattle.server_state.specs.declared.change.Setting.{Setting}
 use Rattle.server_state.specs.declared.change.Setting.TheVariants.{Admin, Health, Weight, MaxConnections, MaxPins}
 use Rattle.server_state.specs.declared.checked.Checked.TheVariants.{Took, Ignored}
@@ -18,7 +17,6 @@ use Rattle.lb_desk_model.specs.declared.reply.Reply.{Reply}
 use Rattle.lb_desk_model.specs.declared.reply.Reply.TheVariants.{Served, Opened, Closed, Expired, Checked, Done, Sheet, Installed, Refused}
 use Rattle.lb_desk_model.specs.declared.reply.ServedAs.{ServedAs}
 use Rattle.lb_desk_model.specs.declared.reply.ServedAs.TheVariants.{Kept, Moved, Made, Loose}
-use Rattle.lb_desk_model.specs.Backends.{BackendParts}
 use Rattle.lb_desk_model.specs.Histories.{History}
 use Rattle.lb_desk_model.specs.Picks.{connections_at}
 use Rattle.lb_desk_model.specs.Seen.{Seen, seen, view_seen}
@@ -26,10 +24,10 @@ use Rattle.lb_desk_model.specs.Serves.{Serves}
 use Rattle.lb_desk_model.specs.Servers.{with_setting}
 use Rattle.lb_desk_model.specs.States.{ServerState, State, SameView, opening, server_at_start, view_of, with_server}
 use Rattle.lb_desk_model.specs.Steps.{Does, Step}
-use Rattle.lb_desk_model.specs.Worn.{ends_one, is_use, is_worn, open_at, open_connections, uses}
+use Rattle.lb_desk_model.specs.Worn.{ends_one, is_use, is_worn, open_at, open_connections}
 use Rattle.lb_desk_law.proofs.SameViews.{same_view-refl}
-use Rattle.lb_desk_law.proofs.Versions.{does-version, step-cases}
-use Rattle.lb_desk_seen.specs.Counting.{EndsOne, WornIsExact, AreFew, CountsAreFew, Fits, StepsFit, NoneIsWorn, HistoriesFit}
+use Rattle.lb_desk_law.proofs.Versions.{does-version}
+use Rattle.lb_desk_seen.specs.Counting.{EndsOne, WornIsExact, CountsAreFew, Fits, StepsFit, NoneIsWorn, HistoriesFit}
 use Rattle.lb_desk_seen.proofs.Changed.{connections_are_seen, views_are_seen}
 
 abbrev count_of : ServerState → ℕ

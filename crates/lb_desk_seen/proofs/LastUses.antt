@@ -1,5 +1,5 @@
 -- Last uses never fall along the table, and none is behind the latest moment.
-use Rattle.std.proofs.Common.{◌≡◌, ◌≤◌, ℕ, Bool, true, false, not, max, Option, List, [], ◌∷◌, ◌++◌, map, drop, filter, refl, sym, ap, if◌then◌else◌, inl, inr, arith}
+use Rattle.std.proofs.Common.{◌≡◌, ◌≤◌, ℕ, Bool, true, false, not, Option, List, [], ◌∷◌, ◌++◌, map, drop, filter, refl, if◌then◌else◌, inl, inr, arith}
 use Rattle.std.specs.Prelude.{All, AllPairs}
 use Rattle.std.specs.List.{zip}
 use Rattle.std.proofs.Math.Nat.{le-max_left}
@@ -22,7 +22,7 @@ use Rattle.lb_desk_model.specs.Installs.{moved_to}
 use Rattle.lb_desk_model.specs.Serves.{Serves, is_full, staying, moment_of, new_pin, used_at}
 use Rattle.lb_desk_model.specs.States.{State, opening}
 use Rattle.lb_desk_model.specs.Steps.{Does, Step, has_expired}
-use Rattle.lb_desk_seen.specs.Uses.{AreInOrderOfUse, PinsAreInOrderOfUse}
+use Rattle.lb_desk_seen.specs.Uses.{PinsAreInOrderOfUse}
 
 -- the last uses rise from the one number to the other
 abbrev Rises : ℕ → List TablePin → ℕ → Type 0

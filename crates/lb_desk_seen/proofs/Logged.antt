@@ -1,13 +1,12 @@
 -- Logs that are cut at an install, and their tails.
-use Rattle.std.proofs.Common.{◌≡◌, ◌≢◌, ◌<◌, ◌≤◌, ℕ, List, [], ◌∷◌, ◌++◌, length, take, drop, refl, sym, ap, ◌∙◌, subst, append_assoc, length-append, arith}
-use Rattle.std.specs.Prelude.{Result, Ok, Err}
+use Rattle.std.proofs.Common.{◌≡◌, ◌≢◌, List, ◌∷◌, ◌++◌, take, drop, sym, ap, ◌∙◌, subst, append_assoc, length-append, arith}
+use Rattle.std.specs.Prelude.{Ok, Err}
 use Rattle.std.proofs.lemmas.List.{take-append-drop, length-take-le}
 use Rattle.std.proofs.Math.Seq.{drop-append_seam}
 use Rattle.pin_set.specs.declared.totals.Score.{Score}
 use Rattle.pin_set.specs.Rows.{rows_score}
 use Rattle.dual_cert_plan.specs.Plans.{PlanParts}
 use Rattle.dual_cert_plan.specs.Sheets.{SheetParts}
-use Rattle.cert_check.specs.declared.fault.CheckFault.{CheckFault}
 use Rattle.cert_check.specs.Verdict.{verdict}
 use Rattle.cert_check.proofs.Means.{score-means}
 use Rattle.lb_desk_model.specs.declared.entry.Entry.{Entry}
@@ -16,7 +15,7 @@ use Rattle.lb_desk_model.specs.declared.reply.Refusal.TheVariants.{Stale, Bad}
 use Rattle.lb_desk_model.specs.declared.reply.Reply.{Reply}
 use Rattle.lb_desk_model.specs.declared.reply.Reply.TheVariants.{Installed, Refused}
 use Rattle.lb_desk_model.specs.Backends.{BackendParts}
-use Rattle.lb_desk_model.specs.Histories.{History, IsTail}
+use Rattle.lb_desk_model.specs.Histories.{History}
 use Rattle.lb_desk_model.specs.Installs.{IsSheetOf}
 use Rattle.lb_desk_model.specs.States.{State, opening, view_of}
 use Rattle.lb_desk_model.specs.Steps.{Does, Step}
@@ -28,7 +27,7 @@ use Rattle.lb_desk_law.proofs.Parts.{cut}
 use Rattle.lb_desk_law.proofs.Versions.{history-same}
 use Rattle.lb_desk_law.proofs.Worlds.{sheet-moved}
 use Rattle.lb_desk_seen.specs.Accepted.{IsAcceptedFor, OneViewAVersion, AcceptedNow, AcceptedBefore}
-use Rattle.lb_desk_seen.specs.Logs.{IsStaleOrBest, Headline, HeadlineOfALog, IsTailOf, TailsAreOfLogs, HeadlineOfATail}
+use Rattle.lb_desk_seen.specs.Logs.{IsStaleOrBest, HeadlineOfALog, TailsAreOfLogs, HeadlineOfATail}
 
 -- ---- logs
 

@@ -1,12 +1,12 @@
 -- How a running desk goes on along a log.
-use Rattle.std.proofs.Common.{◌≡◌, ◌≤◌, ℕ, ◌+◌, ◌-◌, List, [], ◌∷◌, ◌++◌, length, drop, refl, sym, ap, ◌∙◌, subst, length-append, length-drop, arith}
+use Rattle.std.proofs.Common.{◌≡◌, ℕ, ◌+◌, List, [], ◌∷◌, ◌++◌, length, drop, refl, sym, ap, ◌∙◌, subst, length-append, length-drop, arith}
 use Rattle.std.proofs.lemmas.List.{drop-append-le, drop-drop}
 use Rattle.pin_set.specs.Views.{ViewParts, IsView}
 use Rattle.lb_desk_model.specs.declared.entry.Entry.{Entry}
 use Rattle.lb_desk_model.specs.declared.event.Event.{Event}
 use Rattle.lb_desk_model.specs.declared.reply.Reply.{Reply}
 use Rattle.lb_desk_model.specs.Backends.{BackendParts}
-use Rattle.lb_desk_model.specs.Seen.{Seen, Steps, seen, view_seen}
+use Rattle.lb_desk_model.specs.Seen.{Seen, Steps, view_seen}
 use Rattle.lb_desk_model.specs.States.{opening, view_of}
 use Rattle.lb_desk_law.specs.Worlds.{entry}
 use Rattle.lb_desk_law.proofs.Lawful.{views_are_lawful}

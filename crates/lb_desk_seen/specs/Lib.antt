@@ -3,4 +3,5 @@ pub mod Changes
 pub mod Counting
 pub mod Logs
 pub mod Reached
+pub mod Replies
 pub mod Uses

@@ -12,4 +12,4 @@ mod shown;
 
 pub use counts::{counts_fit, pins_are_in_order_of_use};
 pub use logs::{accepted_plans_are_installed, headline_of_logs};
-pub use shown::{changes_are_seen, desks_go_on};
+pub use shown::{changes_are_seen, desks_go_on, replies_tell_changes};
