@@ -1,6 +1,6 @@
 -- When a desk takes no event more: its entries and open connections have come to 2^63. So versions and the numbers of
 -- entries fit into 64 bits, and each open connection has room for the event that ends it.
-use Rattle.std.specs.Prelude.{ℕ, ◌+◌, ◌^◌, Bool, true, false, not, ◌&&◌, nat_lt, nat_le, List, length, sum, count_by, slice_get}
+use Rattle.std.specs.Prelude.{ℕ, ◌+◌, ◌^◌, Bool, true, false, not, ◌&&◌, nat_lt, nat_le, List, sum, count_by, slice_get}
 use Rattle.std.specs.Option.{unwrap_or}
 use Rattle.lb_desk_model.specs.declared.entry.Entry.{Entry}
 use Rattle.lb_desk_model.specs.declared.event.Event.{Event}
@@ -8,7 +8,7 @@ use Rattle.lb_desk_model.specs.declared.event.Event.TheVariants.{Close}
 use Rattle.lb_desk_model.specs.declared.reply.Reply.{Reply}
 use Rattle.lb_desk_model.specs.declared.reply.Reply.TheVariants.{Served}
 use Rattle.lb_desk_model.specs.declared.reply.ServedAs.{ServedAs}
-use Rattle.lb_desk_model.specs.declared.reply.ServedAs.TheVariants.{Kept, Moved, Made, Loose}
+use Rattle.lb_desk_model.specs.declared.reply.ServedAs.TheVariants.{Loose}
 use Rattle.lb_desk_model.specs.Seen.{Seen}
 
 -- how many connections are open, at all servers together

@@ -46,7 +46,7 @@ headline_of_a_log backend log end history early late plan reply e =
     let whole : History (opening backend) (early ++ entry (Install plan) reply ∷ late) end = subst (λ (es : List Entry). History (opening backend) es end) e history in
     let found = cut early (entry (Install plan) reply ∷ late) (opening backend) end whole in
     record {
-      stands = record { old = found.0; new = found.2.0; before = found.1; step = found.2.1; after = found.2.2 };
+      around = record { old = found.0; new = found.2.0; before = found.1; step = found.2.1; after = found.2.2 };
       promised = λ at. promised backend early at.old plan reply at.new at.before at.step;
       since = λ at first since point parts before between. stale-once-changed point since at.old plan reply at.new between at.step;
     }

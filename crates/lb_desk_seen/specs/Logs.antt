@@ -24,7 +24,7 @@ pub record IsStaleOrBest (old : State) (plan : PlanParts) (reply : Reply) (new :
   pub bad : IsBadExactly old plan reply new
 
 -- the states before and after an install of a log: the entries before it lead to the one, those behind it from the other to the end
-pub record StandsBetween (backend : BackendParts) (early : List Entry) (plan : PlanParts) (reply : Reply) (late : List Entry) (end : State) : Type 0 where
+pub record StatesAround (backend : BackendParts) (early : List Entry) (plan : PlanParts) (reply : Reply) (late : List Entry) (end : State) : Type 0 where
   pub old : State
   pub new : State
   pub before : History (opening backend) early old
@@ -36,11 +36,11 @@ abbrev pub IsStaleSince : BackendParts → List Entry → State → PlanParts �
 IsStaleSince backend early old plan reply = (first since : List Entry) (point : State) → early ≡ first ++ since
     → History (opening backend) first point → (between : History point since old) → IsStaleOnceChanged point since old between plan reply
 
--- the install stands between two states, and of any two that it stands between all of this holds
+-- there are such states, and of any of them all of this holds
 pub record Headline (backend : BackendParts) (early : List Entry) (plan : PlanParts) (reply : Reply) (late : List Entry) (end : State) : Type 0 where
-  pub stands : StandsBetween backend early plan reply late end
-  pub promised : (at : StandsBetween backend early plan reply late end) → IsStaleOrBest at.old plan reply at.new
-  pub since : (at : StandsBetween backend early plan reply late end) → IsStaleSince backend early at.old plan reply
+  pub around : StatesAround backend early plan reply late end
+  pub promised : (at : StatesAround backend early plan reply late end) → IsStaleOrBest at.old plan reply at.new
+  pub since : (at : StatesAround backend early plan reply late end) → IsStaleSince backend early at.old plan reply
 
 -- ---- each install of a log
 
