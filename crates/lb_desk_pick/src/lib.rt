@@ -12,6 +12,8 @@ mod least;
 mod pick;
 mod picking;
 mod round;
+#[cfg(test)]
+mod rows;
 mod servers;
 
 pub use pick::Pick;
