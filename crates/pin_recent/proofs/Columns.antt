@@ -1,16 +1,16 @@
 -- The entries of the map as pairs and as numbers.
-use Rattle.std.proofs.Common.{◌≡◌, ◌≢◌, ℕ, zero, suc, ◌+◌, ◌-◌, ◌<◌, ◌≤◌, Bool, true, false, List, [], ◌∷◌, ◌++◌, map, length, take, set, get_or, swap_remove, position, Option, None, Some, slice_get, option_map, is_some, refl, sym, ap, ap₂, ◌∙◌, subst, true≢false, length-set, length-take, arith}
-use Rattle.std.proofs.lemmas.Option.{none-some, same_Some, slice_get_within, slice_get_past, slice_get-map, slice_get-get_or}
+use Rattle.std.proofs.Common.{◌≡◌, ◌≢◌, ℕ, zero, suc, ◌<◌, Bool, true, false, List, [], ◌∷◌, length, set, get_or, position, None, Some, slice_get, option_map, refl, sym, ap, ◌∙◌, subst, true≢false, arith}
+use Rattle.std.proofs.lemmas.Option.{none-some, same_Some, slice_get-map}
 use Rattle.std.proofs.lemmas.Map.{none_passes_from_lookup, NonePasses}
 use Rattle.std.proofs.lemmas.List.Quantifiers.{position-Some}
 use Rattle.std.proofs.lemmas.Map.Entries.{length-keys_of}
 use Rattle.std.specs.Cmp.{IsEquivalence}
 use Rattle.std.specs.List.{IsDistinct, AllByRecursion}
-use Rattle.std.specs.Map.{keys_of, values_of, lookup}
+use Rattle.std.specs.Map.{keys_of, lookup}
 use Rattle.indexmap.specs.Layout.{set_value_at}
 use Rattle.pin_recent.specs.declared.stamped.Stamped.{Stamped}
-use Rattle.pin_recent.specs.Sound.{bare, numbers, OnlyAt, Nowhere, TakesOut}
-use Rattle.pin_recent.proofs.Places.{set_here, set_else, at_below}
+use Rattle.pin_recent.specs.Sound.{bare, numbers, OnlyAt, Nowhere}
+use Rattle.pin_recent.proofs.Places.{at_below}
 
 module _ {K V : Type 0} where
   pub length-bare : (es : List (K × Stamped V)) → length (bare es) ≡ length es

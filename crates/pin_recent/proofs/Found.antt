@@ -1,11 +1,10 @@
 -- What a look-up in the map says of the list.
-use Rattle.std.proofs.Common.{◌≡◌, ◌≢◌, ℕ, zero, suc, ◌+◌, ◌<◌, Bool, true, false, List, [], ◌∷◌, length, position, Option, None, Some, slice_get, is_some, IfSome, IfNone, refl, sym, ap, ◌∙◌, true≢false, arith}
+use Rattle.std.proofs.Common.{◌≡◌, ℕ, zero, suc, Bool, false, List, [], ◌∷◌, position, Option, None, Some, slice_get, is_some, IfSome, IfNone, refl, sym, ap, true≢false}
 use Rattle.std.proofs.lemmas.Option.{none-some, same_Some}
 use Rattle.std.specs.Cmp.{IsEquivalence}
 use Rattle.std.specs.List.{IsDistinct}
 use Rattle.std.specs.Map.{keys_of, values_of, lookup}
 use Rattle.pin_recent.specs.declared.stamped.Stamped.{Stamped}
-use Rattle.pin_recent.specs.Recent.{touched}
 use Rattle.pin_recent.specs.Sound.{Tied, picked, bare, numbers, OnlyAt, Nowhere}
 use Rattle.pin_recent.proofs.Order.{one_stand}
 use Rattle.pin_recent.proofs.Picked.{found, not_found}
@@ -29,7 +28,7 @@ module _ {K V : Type 0} where
       let number = number_at es place (e.0, w) e.1 in
       let s = tied.stands place w.number number in
       sym (found (eq key) (bare es) log s.0 place (e.0, w.value) (only_at laws key es place distinct (sym is)) s.2 (bare_at es place (e.0, w) e.1)
-          (λ j at_j. one_stand first log (numbers es) j s.0 place w.number tied number at_j s.2))
+      (λ j at_j. one_stand first log (numbers es) j s.0 place w.number tied number at_j s.2))
 
   pub absent_from : (test : K → Bool) (es : List (K × Stamped V)) (log : List ℕ) → false ≡ is_some (lookup test es) → lookup test (picked (bare es) log) ≡ None
   absent_from test es log none = not_found test (bare es) log (nowhere test es (none_left (lookup test es) none))

@@ -1,6 +1,6 @@
 -- What each step on the log and the numbers keeps tied.
-use Rattle.std.proofs.Common.{◌≡◌, ◌≢◌, ℕ, zero, suc, ◌+◌, ◌-◌, ◌<◌, ◌≤◌, ◌⊎◌, inl, inr, ⊎_elim, List, [], ◌∷◌, ◌++◌, length, set, None, Some, slice_get, refl, sym, ap, ◌∙◌, subst, arith, length-set, length-append}
-use Rattle.std.proofs.lemmas.Option.{none-some, same_Some, slice_get_within, slice_get_past}
+use Rattle.std.proofs.Common.{◌≡◌, ◌≢◌, ℕ, zero, suc, ◌+◌, ◌-◌, ◌<◌, ◌≤◌, ◌⊎◌, inl, inr, ⊎_elim, List, [], ◌∷◌, ◌++◌, length, set, Some, slice_get, refl, sym, ap, ◌∙◌, subst, arith, length-set, length-append}
+use Rattle.std.proofs.lemmas.Option.{same_Some, slice_get_within}
 use Rattle.pin_recent.specs.Sound.{Tied, TakesOut}
 use Rattle.pin_recent.proofs.Places.{same_or_not, at_below, one_at, not_past, set_here, set_else, at_set, at_longer, at_last, at_snoc}
 
@@ -72,8 +72,8 @@ used_again first log ns place number hole tied has past big = record {
     once_else : (i other n : ℕ) → slice_get (set log (number - first) hole) i ≡ Some other → slice_get (set ns place (first + length log)) other ≡ Some n → n ≡ first + i
     once_else i other n at is = ⊎_elim
         (λ t. let same : hole ≡ other = t.1 in
-            let in_ns : other < length (set ns place (first + length log)) = slice_get_within (set ns place (first + length log)) other n is in
-            absurd (omega (arith, length-set ns place (first + length log))))
+        let in_ns : other < length (set ns place (first + length log)) = slice_get_within (set ns place (first + length log)) other n is in
+        absurd (omega (arith, length-set ns place (first + length log))))
         (λ t. once_kept i other n t.0 t.1 (at_set ns place other (first + length log) n is))
         (at_set log (number - first) i hole other at)
       where
@@ -157,30 +157,30 @@ module _ (first : ℕ) (log ns ms : List ℕ) (gone last : ℕ) (tied : Tied fir
     moved_stands : (place n : ℕ) → slice_get ms place ≡ Some n → (i : ℕ) × (n ≡ first + 1 + i) × (slice_get (set log j gone) i ≡ Some place)
     moved_stands place n at = ⊎_elim
         (λ e. let same : number ≡ n = one_at ms gone number n has (subst (λ p. slice_get ms p ≡ Some n) e at) in
-            (j, sym same ∙ is, set_here log j gone (slice_get_within log j last stood) ∙ ap Some (sym e)))
+        (j, sym same ∙ is, set_here log j gone (slice_get_within log j last stood) ∙ ap Some (sym e)))
         (λ differs.
-            let s = stands_kept place n differs (old_at place n differs at) in
-            let within : place < length ms = slice_get_within ms place n at in
-            let apart : s.0 ≢ j = λ e. let same : place ≡ last = one_at log j place last (subst (λ i. slice_get log i ≡ Some place) e s.2) stood in omega (arith, out.after) in
-            (s.0, s.1, set_else log j s.0 gone apart ∙ s.2))
+        let s = stands_kept place n differs (old_at place n differs at) in
+        let within : place < length ms = slice_get_within ms place n at in
+        let apart : s.0 ≢ j = λ e. let same : place ≡ last = one_at log j place last (subst (λ i. slice_get log i ≡ Some place) e s.2) stood in omega (arith, out.after) in
+        (s.0, s.1, set_else log j s.0 gone apart ∙ s.2))
         (same_or_not place gone)
 
     moved_once : (i place n : ℕ) → slice_get (set log j gone) i ≡ Some place → slice_get ms place ≡ Some n → n ≡ first + 1 + i
     moved_once i place n at at_ms = ⊎_elim
         (λ t. let same : number ≡ n = one_at ms gone number n has (subst (λ p. slice_get ms p ≡ Some n) (sym t.1) at_ms) in omega (arith, t.0))
         (λ t.
-            let differs : place ≢ gone = λ e. not_again (omega arith) i (subst (λ p. slice_get log i ≡ Some p) e t.1) in
-            let was : n ≡ first + suc i = tied.once (suc i) place n t.1 (old_at place n differs at_ms) in
-            omega arith)
+        let differs : place ≢ gone = λ e. not_again (omega arith) i (subst (λ p. slice_get log i ≡ Some p) e t.1) in
+        let was : n ≡ first + suc i = tied.once (suc i) place n t.1 (old_at place n differs at_ms) in
+        omega arith)
         (at_set log j i gone place at)
 
     moved_holes : (i place : ℕ) → slice_get (set log j gone) i ≡ Some place → length ms ≤ place → 4294967295 ≤ place
     moved_holes i place at past = ⊎_elim
         (λ t. absurd (omega (arith, t.1, out.after)))
         (λ t.
-            let e = at_below ns last (omega (arith, out.before)) in
-            let differs : place ≢ last = λ same. t.0 (omega (arith, one_stand first (gone ∷ log) ns (suc i) (suc j) last e.0 tied e.1 (subst (λ p. slice_get log i ≡ Some p) same t.1) stood)) in
-            tied.holes (suc i) place t.1 (omega (arith, out.before, out.after)))
+        let e = at_below ns last (omega (arith, out.before)) in
+        let differs : place ≢ last = λ same. t.0 (omega (arith, one_stand first (gone ∷ log) ns (suc i) (suc j) last e.0 tied e.1 (subst (λ p. slice_get log i ≡ Some p) same t.1) stood)) in
+        tied.holes (suc i) place t.1 (omega (arith, out.before, out.after)))
         (at_set log j i gone place at)
 
     pub with_moved : Tied (first + 1) (set log j gone) ms

@@ -1,10 +1,9 @@
 -- What the log picks of the pairs.
-use Rattle.std.proofs.Common.{◌≡◌, ◌≢◌, ℕ, zero, suc, ◌+◌, ◌<◌, ◌≤◌, Bool, true, false, cond, List, [], ◌∷◌, ◌++◌, length, take, drop, set, Option, None, Some, slice_get, option_map, option_to_list, refl, sym, ap, ap₂, ◌∙◌, subst, append_assoc, append-nil, length-append, arith}
+use Rattle.std.proofs.Common.{◌≡◌, ◌≢◌, ℕ, zero, suc, ◌+◌, ◌<◌, ◌≤◌, Bool, true, false, cond, List, [], ◌∷◌, ◌++◌, length, take, drop, set, Option, None, Some, slice_get, option_map, option_to_list, refl, sym, ap, ap₂, ◌∙◌, subst, append_assoc, append-nil, arith}
 use Rattle.std.proofs.lemmas.Option.{none-some, same_Some, slice_get_within, slice_get_past}
 use Rattle.std.specs.Map.{lookup, lookup_key, remove_entry}
 use Rattle.pin_recent.specs.Sound.{picked, OnlyAt, Nowhere}
 use Rattle.pin_recent.specs.Recent.{touched}
-use Rattle.pin_recent.proofs.Places.{at_below, one_at, not_past, at_longer, at_last}
 
 pub drop-longer : (log : List ℕ) (q r : ℕ) → r ≤ length log → drop r (log ++ q ∷ []) ≡ drop r log ++ q ∷ []
 drop-longer log q zero le = refl
@@ -46,8 +45,8 @@ module _ {X : Type 0} where
   length-picked_le xs (p ∷ ps) =
       let rest : length (picked xs ps) ≤ length ps = length-picked_le xs ps in
       there_or_not (slice_get xs p)
-          (λ none. omega (arith, ap length (picked_none xs p ps none)))
-          (λ x some. omega (arith, ap length (picked_some xs p ps x some)))
+      (λ none. omega (arith, ap length (picked_none xs p ps none)))
+      (λ x some. omega (arith, ap length (picked_some xs p ps x some)))
 
   -- where each place has an item, the first has
   pub front_there : (xs : List X) (ps : List ℕ) (p : ℕ) → length (picked xs ps) ≡ length ps → slice_get ps 0 ≡ Some p → p < length xs
@@ -56,8 +55,8 @@ module _ {X : Type 0} where
       let same : q ≡ p = same_Some q p at in
       let rest : length (picked xs ps) ≤ length ps = length-picked_le xs ps in
       there_or_not (slice_get xs q)
-          (λ none. absurd (omega (arith, ap length (picked_none xs q ps none))))
-          (λ x some. let within : q < length xs = slice_get_within xs q x some in omega arith)
+      (λ none. absurd (omega (arith, ap length (picked_none xs q ps none))))
+      (λ x some. let within : q < length xs = slice_get_within xs q x some in omega arith)
 
   -- one hole more, one item less
   pub length-hole : (xs : List X) (log : List ℕ) (i place hole : ℕ) (x : X) → slice_get log i ≡ Some place → slice_get xs place ≡ Some x → slice_get xs hole ≡ None
@@ -69,8 +68,8 @@ module _ {X : Type 0} where
   length-hole xs (q ∷ log) (suc i) place hole x at has none =
       let rest : length (picked xs (set log i hole)) + 1 ≡ length (picked xs log) = length-hole xs log i place hole x at has none in
       there_or_not (slice_get xs q)
-          (λ nothing. omega (arith, ap length (picked_none xs q log nothing), ap length (picked_none xs q (set log i hole) nothing)))
-          (λ f some. omega (arith, ap length (picked_some xs q log f some), ap length (picked_some xs q (set log i hole) f some)))
+      (λ nothing. omega (arith, ap length (picked_none xs q log nothing), ap length (picked_none xs q (set log i hole) nothing)))
+      (λ f some. omega (arith, ap length (picked_some xs q log f some), ap length (picked_some xs q (set log i hole) f some)))
 
   -- one turn: what is done stands behind the first r, which are still to do
   pub turns_hole : (xs : List X) (q : ℕ) (log : List ℕ) (r : ℕ) → slice_get xs q ≡ None
@@ -129,20 +128,20 @@ module _ {K V : Type 0} (test : K → Bool) where
   split xs (q ∷ log) (suc i) place hole p at has none others =
       let s : Split (picked xs log) (picked xs (set log i hole)) p = split xs log i place hole p at has none (λ j r f at_j apart. others (suc j) r f at_j (λ e. apart (omega arith))) in
       there_or_not (slice_get xs q)
-          (λ nothing. record {
-              front = s.front;
-              rest = s.rest;
-              with_it = picked_none xs q log nothing ∙ s.with_it;
-              without_it = picked_none xs q (set log i hole) nothing ∙ s.without_it;
-              fail = s.fail;
-            })
-          (λ f some. record {
-              front = f ∷ s.front;
-              rest = s.rest;
-              with_it = picked_some xs q log f some ∙ ap (λ l. f ∷ l) s.with_it;
-              without_it = picked_some xs q (set log i hole) f some ∙ ap (λ l. f ∷ l) s.without_it;
-              fail = (others 0 q f refl (λ e. omega arith) some, s.fail);
-            })
+      (λ nothing. record {
+        front = s.front;
+        rest = s.rest;
+        with_it = picked_none xs q log nothing ∙ s.with_it;
+        without_it = picked_none xs q (set log i hole) nothing ∙ s.without_it;
+        fail = s.fail;
+      })
+      (λ f some. record {
+        front = f ∷ s.front;
+        rest = s.rest;
+        with_it = picked_some xs q log f some ∙ ap (λ l. f ∷ l) s.with_it;
+        without_it = picked_some xs q (set log i hole) f some ∙ ap (λ l. f ∷ l) s.without_it;
+        fail = (others 0 q f refl (λ e. omega arith) some, s.fail);
+      })
 
   fails : (xs : List (K × V)) (log : List ℕ) → Nowhere test xs → Fail (picked xs log)
   fails xs [] nowhere = tt

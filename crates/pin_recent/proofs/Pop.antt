@@ -1,6 +1,6 @@
 -- The first place of the log is taken out of the map, and the last entry moves there.
-use Rattle.std.proofs.Common.{◌≡◌, ◌≢◌, ℕ, zero, suc, ◌+◌, ◌-◌, ◌<◌, ◌≤◌, ◌⊎◌, inl, inr, ⊎_elim, List, [], ◌∷◌, ◌++◌, map, length, take, set, get_or, swap_remove, Option, None, Some, slice_get, option_map, refl, sym, ap, ◌∙◌, subst, arith, length-set, length-take}
-use Rattle.std.proofs.lemmas.Option.{none-some, same_Some, slice_get_within, slice_get_past, slice_get-map, slice_get-get_or}
+use Rattle.std.proofs.Common.{◌≡◌, ◌≢◌, ℕ, zero, suc, ◌+◌, ◌-◌, ◌<◌, ◌≤◌, ⊎_elim, List, [], ◌∷◌, map, length, take, set, get_or, swap_remove, Some, slice_get, option_map, refl, sym, ap, ◌∙◌, subst, arith, length-set, length-take}
+use Rattle.std.proofs.lemmas.Option.{slice_get_within, slice_get_past, slice_get-map, slice_get-get_or}
 use Rattle.std.specs.Option.{option_map_or}
 use lib.ListN.{length-map}
 use Rattle.pin_recent.specs.Sound.{Tied, TakesOut, picked, settled}
@@ -62,10 +62,10 @@ module _ (first : ℕ) (log ns ms : List ℕ) (gone last : ℕ) (tied : Tied fir
   pops_tied = ⊎_elim
       (λ same. subst (λ l. Tied (first + 1) l ms) (sym (unsettled same)) (without_last first log ns ms gone last tied out same))
       (λ differs.
-          let below = below_last differs in
-          let e = at_below ms gone (omega (arith, out.after)) in
-          let m = moved_at below e.0 e.1 in
-          subst (λ l. Tied (first + 1) l ms) (sym (resettled e.0 e.1)) (with_moved first log ns ms gone last tied out below (e.0 - (first + 1)) e.0 m.1 m.2 e.1))
+      let below = below_last differs in
+      let e = at_below ms gone (omega (arith, out.after)) in
+      let m = moved_at below e.0 e.1 in
+      subst (λ l. Tied (first + 1) l ms) (sym (resettled e.0 e.1)) (with_moved first log ns ms gone last tied out below (e.0 - (first + 1)) e.0 m.1 m.2 e.1))
       (same_or_not gone last)
 
   module _ {X : Type 0} (xs ys : List X) (takes : TakesOut gone last xs ys) where
@@ -78,25 +78,25 @@ module _ (first : ℕ) (log ns ms : List ℕ) (gone last : ℕ) (tied : Tied fir
     pub pops_picked : picked ys (settled (first + 1) ms gone log) ≡ picked xs log
     pops_picked = ⊎_elim
         (λ same. ap (picked ys) (unsettled same) ∙ same_picked ys xs log log refl
-            (λ i p q at_p at_q.
-                let one : p ≡ q = one_at log i p q at_p at_q in
-                let not_gone : p ≢ gone = λ e. not_again first log ns ms gone last tied out within i (subst (λ r. slice_get log i ≡ Some r) e at_p) in
-                same_shown p not_gone (λ e. not_gone (e ∙ sym same)) ∙ ap (slice_get xs) one))
+        (λ i p q at_p at_q.
+        let one : p ≡ q = one_at log i p q at_p at_q in
+        let not_gone : p ≢ gone = λ e. not_again first log ns ms gone last tied out within i (subst (λ r. slice_get log i ≡ Some r) e at_p) in
+        same_shown p not_gone (λ e. not_gone (e ∙ sym same)) ∙ ap (slice_get xs) one))
         (λ differs.
-            let below = below_last differs in
-            let e = at_below ms gone (omega (arith, out.after)) in
-            let m = moved_at below e.0 e.1 in
-            let j = e.0 - (first + 1) in
-            ap (picked ys) (resettled e.0 e.1) ∙ same_picked ys xs (set log j gone) log (length-set log j gone)
-                (λ i p q at_p at_q. ⊎_elim
-                    (λ t. let is_last : last ≡ q = one_at log j last q m.2 (subst (λ k. slice_get log k ≡ Some q) t.0 at_q) in
-                        ap (slice_get ys) (sym t.1) ∙ takes.moved below ∙ ap (slice_get xs) is_last)
-                    (λ t. let one : p ≡ q = one_at log i p q t.1 at_q in
-                        let not_gone : p ≢ gone = λ e. not_again first log ns ms gone last tied out within i (subst (λ r. slice_get log i ≡ Some r) e t.1) in
-                        let not_last : p ≢ last = λ same.
-                            let has = at_below ns last (omega (arith, out.before)) in
-                            let again : suc i ≡ suc j = one_stand first (gone ∷ log) ns (suc i) (suc j) last has.0 tied has.1 (subst (λ r. slice_get log i ≡ Some r) same t.1) m.2 in
-                            t.0 (omega arith) in
-                        same_shown p not_gone not_last ∙ ap (slice_get xs) one)
-                    (at_set log j i gone p at_p)))
+        let below = below_last differs in
+        let e = at_below ms gone (omega (arith, out.after)) in
+        let m = moved_at below e.0 e.1 in
+        let j = e.0 - (first + 1) in
+        ap (picked ys) (resettled e.0 e.1) ∙ same_picked ys xs (set log j gone) log (length-set log j gone)
+        (λ i p q at_p at_q. ⊎_elim
+        (λ t. let is_last : last ≡ q = one_at log j last q m.2 (subst (λ k. slice_get log k ≡ Some q) t.0 at_q) in
+        ap (slice_get ys) (sym t.1) ∙ takes.moved below ∙ ap (slice_get xs) is_last)
+        (λ t. let one : p ≡ q = one_at log i p q t.1 at_q in
+        let not_gone : p ≢ gone = λ e. not_again first log ns ms gone last tied out within i (subst (λ r. slice_get log i ≡ Some r) e t.1) in
+        let not_last : p ≢ last = λ same.
+        let has = at_below ns last (omega (arith, out.before)) in
+        let again : suc i ≡ suc j = one_stand first (gone ∷ log) ns (suc i) (suc j) last has.0 tied has.1 (subst (λ r. slice_get log i ≡ Some r) same t.1) m.2 in
+        t.0 (omega arith) in
+        same_shown p not_gone not_last ∙ ap (slice_get xs) one)
+        (at_set log j i gone p at_p)))
         (same_or_not gone last)

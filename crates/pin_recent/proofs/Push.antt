@@ -1,5 +1,5 @@
 -- A pair goes behind the others, and what an absent key means.
-use Rattle.std.proofs.Common.{◌≡◌, ◌≢◌, ℕ, zero, suc, ◌+◌, ◌<◌, ◌≤◌, Bool, true, false, cond, ⊎_elim, List, [], ◌∷◌, ◌++◌, length, map, Option, Result, None, Some, Ok, Err, OnOk, IsOk, is_ok, is_err, slice_get, option_map, refl, sym, ap, ap₂, ◌∙◌, subst, true≢false, length-append, arith}
+use Rattle.std.proofs.Common.{◌≡◌, ℕ, zero, suc, ◌+◌, ◌<◌, ◌≤◌, Bool, true, false, cond, ⊎_elim, List, [], ◌∷◌, ◌++◌, length, Option, Result, None, Some, Ok, Err, OnOk, IsOk, is_err, slice_get, option_map, refl, sym, ap, ap₂, ◌∙◌, subst, true≢false, length-append, arith}
 use Rattle.std.proofs.lemmas.List.{map-append}
 use Rattle.std.proofs.lemmas.Option.{none-some, same_Some, slice_get_within, slice_get_past}
 use Rattle.std.specs.Map.{lookup}
@@ -45,8 +45,8 @@ module _ {K V : Type 0} where
   fails_at test xs (q ∷ log) i place p absent at has = there_or_not (slice_get xs q)
       (λ none. at_hole i none at (λ j here. fails_at test xs log j place p (sym (ap (lookup test) (picked_none xs q log none)) ∙ absent) here has))
       (λ f some.
-          let out = head (test f.0) f.1 (lookup test (picked xs log)) (sym (ap (lookup test) (picked_some xs q log f some)) ∙ absent) in
-          at_pair i f some out.0 at (λ j here. fails_at test xs log j place p out.1 here has))
+      let out = head (test f.0) f.1 (lookup test (picked xs log)) (sym (ap (lookup test) (picked_some xs q log f some)) ∙ absent) in
+      at_pair i f some out.0 at (λ j here. fails_at test xs log j place p out.1 here has))
     where
       head : (b : Bool) (f : V) (o : Option V) → cond b (Some f) o ≡ None → (b ≡ false) × (o ≡ None)
       head true f o e = absurd (none-some f (sym e))
@@ -78,11 +78,11 @@ module _ {K V : Type 0} where
     pub push_tied : Tied next after (numbers fs)
     push_tied =
         let ns : numbers fs ≡ numbers es ++ (first + length log) ∷ [] =
-                ap numbers fs_is ∙ map-append (λ (e : K × Stamped V). e.1.number) es ((key, st) ∷ []) ∙ ap (λ (n : ℕ). numbers es ++ n ∷ []) number in
+        ap numbers fs_is ∙ map-append (λ (e : K × Stamped V). e.1.number) es ((key, st) ∷ []) ∙ ap (λ (n : ℕ). numbers es ++ n ∷ []) number in
         let at : after ≡ log ++ length (numbers es) ∷ [] = after_is ∙ ap (λ (n : ℕ). log ++ n ∷ []) (place_is ∙ sym (length-numbers es)) in
         let t = one_more first log (numbers es) tied (omega (arith, few, length-numbers es)) in
         subst (λ (n : ℕ). Tied n after (numbers fs)) (sym next_is)
-            (subst (λ l. Tied first l (numbers fs)) (sym at) (subst (λ l. Tied first (log ++ length (numbers es) ∷ []) l) (sym ns) t))
+        (subst (λ l. Tied first l (numbers fs)) (sym at) (subst (λ l. Tied first (log ++ length (numbers es) ∷ []) l) (sym ns) t))
 
     pub push_stored : picked (bare fs) after ≡ picked (bare es) log ++ (key, st.value) ∷ []
     push_stored =
@@ -97,8 +97,8 @@ module _ {K V : Type 0} where
         same_shown i p at = ⊎_elim
             (λ below. let e = at_below (bare es) p below in at_longer (bare es) (key, st.value) e.0 p e.1 ∙ sym e.1)
             (λ past.
-                let big : 4294967295 ≤ p = tied.holes i p at (omega (arith, past, length-bare es, length-numbers es)) in
-                slice_get_past (bare es ++ (key, st.value) ∷ []) p (omega (arith, big, few, length-bare es, length-append (bare es) ((key, st.value) ∷ []))) ∙ sym (slice_get_past (bare es) p past))
+            let big : 4294967295 ≤ p = tied.holes i p at (omega (arith, past, length-bare es, length-numbers es)) in
+            slice_get_past (bare es ++ (key, st.value) ∷ []) p (omega (arith, big, few, length-bare es, length-append (bare es) ((key, st.value) ∷ []))) ∙ sym (slice_get_past (bare es) p past))
             (below_or_not p (length (bare es)))
 
     pub push_all : length (picked (bare es) log) ≡ length es → length (picked (bare fs) after) ≡ length fs

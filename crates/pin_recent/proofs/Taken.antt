@@ -1,5 +1,5 @@
 -- The oldest pair is taken out.
-use Rattle.std.proofs.Common.{◌≡◌, ℕ, ◌+◌, ◌-◌, ◌<◌, ◌≤◌, List, [], ◌∷◌, length, map, swap_remove, Some, slice_get, sym, ap, ap₂, ◌∙◌, subst, arith}
+use Rattle.std.proofs.Common.{◌≡◌, ℕ, ◌+◌, ◌-◌, ◌<◌, ◌≤◌, List, ◌∷◌, length, swap_remove, Some, slice_get, sym, ap, ap₂, ◌∙◌, subst, arith}
 use Rattle.std.proofs.lemmas.Option.{slice_get_within}
 use Rattle.pin_recent.specs.declared.stamped.Stamped.{Stamped}
 use Rattle.pin_recent.specs.Sound.{Tied, TakesOut, picked, settled, bare, numbers}
@@ -47,8 +47,8 @@ module _ {K V : Type 0} (es fs : List (K × Stamped V)) (first next : ℕ) (log 
     taken_tied =
         let t = pops_tied first rest (numbers es) (numbers fs) place (length es - 1) fronted out_numbers (omega (arith, within)) in
         subst (λ (n : ℕ). Tied n after (numbers gs)) (sym (now_is ∙ next_is))
-            (subst (λ l. Tied (first + 1) l (numbers gs)) (sym at_next)
-                (subst (λ l. Tied (first + 1) (settled (first + 1) (numbers fs) place rest) (numbers l)) (sym gs_is) t))
+        (subst (λ l. Tied (first + 1) l (numbers gs)) (sym at_next)
+        (subst (λ l. Tied (first + 1) (settled (first + 1) (numbers fs) place rest) (numbers l)) (sym gs_is) t))
 
     pub taken_picked : picked (bare gs) after ≡ picked (bare es) rest
     taken_picked =

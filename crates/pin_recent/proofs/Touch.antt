@@ -36,8 +36,8 @@ module _ {K V : Type 0} (es : List (K × Stamped V)) (first : ℕ) (log : List �
         let ns : numbers (set_value_at es place w) ≡ set (numbers es) place (first + length log) = numbers-set es place w ∙ ap (set (numbers es) place) n in
         let t = used_again first log (numbers es) place old.number 4294967295 tied (number_at es place (key, old) has) (omega (arith, few, length-numbers es)) (omega arith) in
         subst (λ (f : ℕ). Tied f after (numbers (set_value_at es place w))) (sym next_is)
-            (subst (λ l. Tied first l (numbers (set_value_at es place w))) (sym after_is)
-                (subst (λ l. Tied first (set log (old.number - first) 4294967295 ++ place ∷ []) l) (sym ns) t))
+        (subst (λ l. Tied first l (numbers (set_value_at es place w))) (sym after_is)
+        (subst (λ l. Tied first (set log (old.number - first) 4294967295 ++ place ∷ []) l) (sym ns) t))
 
     not_there : (i p : ℕ) → slice_get (set log (old.number - first) 4294967295) i ≡ Some p → p ≢ place
     not_there i p at same = ⊎_elim
@@ -51,7 +51,7 @@ module _ {K V : Type 0} (es : List (K × Stamped V)) (first : ℕ) (log : List �
         let ys = set_value_at (bare es) place value in
         let pairs : bare (set_value_at es place w) ≡ ys = bare-set es place w ∙ ap (λ (s : Stamped V). set_value_at (bare es) place s.value) new in
         let before : picked ys holed ≡ picked (bare es) holed =
-                same_picked ys (bare es) holed holed refl (λ i p q at_p at_q. value_else (bare es) place p value (not_there i p at_p) ∙ ap (slice_get (bare es)) (one_at holed i p q at_p at_q)) in
+        same_picked ys (bare es) holed holed refl (λ i p q at_p at_q. value_else (bare es) place p value (not_there i p at_p) ∙ ap (slice_get (bare es)) (one_at holed i p q at_p at_q)) in
         let behind : picked ys (place ∷ []) ≡ (key, value) ∷ [] = picked_some ys place [] (key, value) (value_here (bare es) place (key, old.value) value pair) in
         ap₂ picked pairs after_is ∙ picked-append ys holed (place ∷ []) ∙ ap₂ (λ (a b : List (K × V)). a ++ b) before behind
 

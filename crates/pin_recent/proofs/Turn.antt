@@ -1,12 +1,12 @@
 -- One turn of the log: its first place goes to its end.
-use Rattle.std.proofs.Common.{◌≡◌, ◌≢◌, ℕ, zero, suc, ◌+◌, ◌-◌, ◌<◌, ◌≤◌, Bool, true, false, List, [], ◌∷◌, ◌++◌, length, take, drop, set, Option, None, Some, if◌then◌else◌, nat_lt, slice_get, refl, sym, ap, ap₂, ◌∙◌, subst, arith, length-set, length-append, true≢false, ltb-true, ltb-false}
-use Rattle.std.proofs.lemmas.Option.{same_Some, slice_get_past}
+use Rattle.std.proofs.Common.{◌≡◌, ℕ, suc, ◌+◌, ◌-◌, ◌<◌, ◌≤◌, Bool, true, false, List, [], ◌∷◌, ◌++◌, length, take, drop, set, if◌then◌else◌, nat_lt, refl, sym, ap, ◌∙◌, subst, arith, length-set, length-append, ltb-true, ltb-false}
+use Rattle.std.proofs.lemmas.Option.{slice_get_past}
 use Rattle.indexmap.specs.Layout.{set_value_at}
 use Rattle.pin_recent.specs.declared.stamped.Stamped.{Stamped}
-use Rattle.pin_recent.specs.Sound.{Tied, picked, bare, numbers, turned}
+use Rattle.pin_recent.specs.Sound.{Tied, picked, numbers, turned}
 use Rattle.pin_recent.proofs.Places.{at_below}
 use Rattle.pin_recent.proofs.Order.{used_again, without_hole}
-use Rattle.pin_recent.proofs.Picked.{picked-append, picked_none, picked_some, turns_hole, turns_place, drop-longer}
+use Rattle.pin_recent.proofs.Picked.{picked-append, picked_some, turns_hole, turns_place, drop-longer}
 use Rattle.pin_recent.proofs.Columns.{length-numbers, numbers-set}
 
 turn_tied : (first : ℕ) (rest ns : List ℕ) (place : ℕ) → Tied first (place ∷ rest) ns → place < length ns → length ns < 4294967295
@@ -17,7 +17,7 @@ turn_tied first rest ns place tied within few =
     let at : e.0 - first ≡ 0 = omega arith in
     let new = set ns place (first + length (place ∷ rest)) in
     let again : Tied first (4294967295 ∷ (rest ++ place ∷ [])) new =
-            subst (λ i. Tied first (set (place ∷ rest) i 4294967295 ++ place ∷ []) new) at (used_again first (place ∷ rest) ns place e.0 4294967295 tied e.1 (omega arith) (omega arith)) in
+    subst (λ i. Tied first (set (place ∷ rest) i 4294967295 ++ place ∷ []) new) at (used_again first (place ∷ rest) ns place e.0 4294967295 tied e.1 (omega arith) (omega arith)) in
     without_hole first (rest ++ place ∷ []) new 4294967295 again (omega (arith, length-set ns place (first + length (place ∷ rest))))
 
 module _ {K V : Type 0} where
@@ -26,18 +26,18 @@ module _ {K V : Type 0} where
   turned_tied first log rest es place w next new tied is within few number next_is new_is =
       let t : Tied first (place ∷ rest) (numbers es) = subst (λ l. Tied first l (numbers es)) is tied in
       let turned : Tied (first + 1) (rest ++ place ∷ []) (set (numbers es) place (first + length (place ∷ rest))) =
-              turn_tied first rest (numbers es) place t (omega (arith, length-numbers es)) (omega (arith, length-numbers es)) in
+      turn_tied first rest (numbers es) place t (omega (arith, length-numbers es)) (omega (arith, length-numbers es)) in
       let ns : numbers (set_value_at es place w) ≡ set (numbers es) place (first + length (place ∷ rest)) =
-              numbers-set es place w ∙ ap (set (numbers es) place) (number ∙ ap (λ (l : List ℕ). first + length l) is) in
+      numbers-set es place w ∙ ap (set (numbers es) place) (number ∙ ap (λ (l : List ℕ). first + length l) is) in
       subst (λ (n : ℕ). Tied n new (numbers (set_value_at es place w))) (sym next_is)
-          (subst (λ l. Tied (first + 1) l (numbers (set_value_at es place w))) (sym new_is)
-              (subst (λ l. Tied (first + 1) (rest ++ place ∷ []) l) (sym ns) turned))
+      (subst (λ l. Tied (first + 1) l (numbers (set_value_at es place w))) (sym new_is)
+      (subst (λ l. Tied (first + 1) (rest ++ place ∷ []) l) (sym ns) turned))
 
   pub dropped_tied : (first : ℕ) (log rest : List ℕ) (es : List (K × Stamped V)) (place next : ℕ) → Tied first log (numbers es) → log ≡ place ∷ rest → length es ≤ place → next ≡ first + 1
       → Tied next rest (numbers es)
   dropped_tied first log rest es place next tied is past next_is =
       subst (λ (n : ℕ). Tied n rest (numbers es)) (sym next_is)
-          (without_hole first rest (numbers es) place (subst (λ l. Tied first l (numbers es)) is tied) (omega (arith, length-numbers es)))
+      (without_hole first rest (numbers es) place (subst (λ l. Tied first l (numbers es)) is tied) (omega (arith, length-numbers es)))
 
 -- how far the log was turned round: the first r are still to do
 module _ {X : Type 0} (xs all : List X) where
@@ -60,7 +60,7 @@ module _ {X : Type 0} (xs all : List X) where
       let e = at_below xs q within in
       let longer = drop-longer log q r below in
       let seen : picked xs (drop r (log ++ q ∷ [])) ≡ picked xs (drop r log) ++ e.0 ∷ [] =
-              ap (picked xs) longer ∙ picked-append xs (drop r log) (q ∷ []) ∙ ap (λ l. picked xs (drop r log) ++ l) (picked_some xs q [] e.0 e.1) in
+      ap (picked xs) longer ∙ picked-append xs (drop r log) (q ∷ []) ∙ ap (λ l. picked xs (drop r log) ++ l) (picked_some xs q [] e.0 e.1) in
       let was : length (picked xs (drop r log)) ≡ length (drop r log) = t.closed in
       record {
         left = omega (arith, length-append log (q ∷ []));

@@ -28,9 +28,9 @@ impl<K: Eq + Hash, V, S: BuildHasher> Model for Recent<K, V, S> {
     ghost view = { λ r. in_order (stored r.store) r.uses };
 
     ghost invariant = { λ r. record {
-        ordered : Ordered r.store;
-        trim : Trim r.store;
-        counted : spent r.store ≤ 2 * r.uses + length r.store.map.entries
+      ordered : Ordered r.store;
+      trim : Trim r.store;
+      counted : spent r.store ≤ 2 * r.uses + length r.store.map.entries;
     } };
 }
 

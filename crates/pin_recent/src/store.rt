@@ -249,7 +249,9 @@ impl<K: Eq + Hash + Drop, V: Drop, S: BuildHasher> Store<K, V, S> {
         ensures value_returned { IfErr result (λ failed. failed.value ≡ (key, value)) }
     {
         if self.reserve().is_err() {
-            return Err(AllocFailed { value: (key, value) });
+            return Err(AllocFailed {
+                value: (key, value),
+            });
         }
         let place = self.map.len() as u32;
         let number = self.log.end();

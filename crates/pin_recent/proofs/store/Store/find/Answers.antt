@@ -12,4 +12,4 @@ pub returns : goal.returns
 returns g c =
     let s = c.args.self.now in
     found_at g.met.K.Eq.laws c.args.key.now s.map.entries s.log.first s.log.places.items c.in_ok-place.place c.index.result.now
-        c.requires.ordered.tied c.in_ok-place.ensures.unique c.in_ok-place.ensures.index c.index.ensures
+    c.requires.ordered.tied c.in_ok-place.ensures.unique c.in_ok-place.ensures.index c.index.ensures

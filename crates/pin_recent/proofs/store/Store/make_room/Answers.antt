@@ -1,4 +1,4 @@
-use Rattle.std.proofs.Common.{◌≡◌, ℕ, ◌+◌, ◌-◌, suc, length, drop, sym, ap, subst, ◌∙◌, arith}
+use Rattle.std.proofs.Common.{◌≡◌, ℕ, ◌+◌, ◌-◌, suc, length, drop, sym, subst, ◌∙◌, arith}
 use Rattle.pin_recent.specs.Sound.{bare, picked, stored}
 use Rattle.pin_recent.proofs.Columns.{length-bare}
 use Rattle.pin_recent.proofs.Picked.{front_there}

@@ -1,4 +1,4 @@
-use Rattle.std.proofs.Common.{◌≡◌, ◌+◌, ◌-◌, ◌≤◌, length}
+use Rattle.std.proofs.Common.{◌≡◌, ◌+◌, ◌-◌, length}
 use Rattle.std.specs.VecDeque.{deque_capacity}
 use Rattle.pin_recent.specs.Sound.{Tied, bare, numbers, stored}
 use Rattle.pin_recent.proofs.Turn.{Turning}

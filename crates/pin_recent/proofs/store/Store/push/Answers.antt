@@ -1,4 +1,4 @@
-use Rattle.std.proofs.Common.{◌≡◌, ◌+◌, ◌<◌, ◌++◌, ◌∷◌, [], length, ap, sym, subst, ◌∙◌, refl, arith}
+use Rattle.std.proofs.Common.{◌≡◌, ◌+◌, ◌++◌, ◌∷◌, [], length, ap, sym, subst, ◌∙◌, arith}
 use Rattle.indexmap.proofs.CallerLemmas.{insert_entry-new}
 use Rattle.pin_recent.specs.Sound.{Nowhere, bare, stored}
 use Rattle.pin_recent.proofs.Picked.{length-picked_le}
@@ -21,7 +21,7 @@ returns-clause-ordered g c =
     let nowhere = subst (λ l. Nowhere test l) (sym c.reserve.ensures.pairs) c.requires.absent in
     let entries = on_is_ok c.insert.result c.insert.ensures.entries (c.insert.ensures.succeeds map) ∙ insert_entry-new g.K.PartialEq.eq m.map c.args.key _ (not_got test m.map.entries nowhere) in
     let more = length_more m.map.entries m.log.first m.log.places.items c.args.key _ c.insert.new.self.entries c.len-place.result c.push.new.self.first c.push.new.self.places.items
-            c.reserve.ensures.ordered.tied few c.end-number.ensures entries c.len-place.ensures.len c.push.ensures.first c.push.ensures.places in
+    c.reserve.ensures.ordered.tied few c.end-number.ensures entries c.len-place.ensures.len c.push.ensures.first c.push.ensures.places in
     record {
       tied = push_tied m.map.entries m.log.first m.log.places.items c.args.key _ c.insert.new.self.entries c.len-place.result c.push.new.self.first c.push.new.self.places.items
           c.reserve.ensures.ordered.tied few c.end-number.ensures entries c.len-place.ensures.len c.push.ensures.first c.push.ensures.places;
@@ -40,7 +40,7 @@ returns-clause-trim g c =
     let nowhere = subst (λ l. Nowhere test l) (sym c.reserve.ensures.pairs) c.requires.absent in
     let entries = on_is_ok c.insert.result c.insert.ensures.entries (c.insert.ensures.succeeds map) ∙ insert_entry-new g.K.PartialEq.eq m.map c.args.key _ (not_got test m.map.entries nowhere) in
     push_trim m.map.entries m.log.first m.log.places.items c.args.key _ c.insert.new.self.entries c.len-place.result c.push.new.self.first c.push.new.self.places.items
-        c.reserve.ensures.ordered.tied few c.end-number.ensures entries c.len-place.ensures.len c.push.ensures.first c.push.ensures.places c.reserve.ensures.trim
+    c.reserve.ensures.ordered.tied few c.end-number.ensures entries c.len-place.ensures.len c.push.ensures.first c.push.ensures.places c.reserve.ensures.trim
 
 pub returns-clause-ok : goal.returns-clause-ok
 returns-clause-ok g c =
@@ -51,7 +51,7 @@ returns-clause-ok g c =
     let nowhere = subst (λ l. Nowhere test l) (sym c.reserve.ensures.pairs) c.requires.absent in
     let entries = on_is_ok c.insert.result c.insert.ensures.entries (c.insert.ensures.succeeds map) ∙ insert_entry-new g.K.PartialEq.eq m.map c.args.key _ (not_got test m.map.entries nowhere) in
     push_stored m.map.entries m.log.first m.log.places.items c.args.key _ c.insert.new.self.entries c.len-place.result c.push.new.self.first c.push.new.self.places.items
-        c.reserve.ensures.ordered.tied few c.end-number.ensures entries c.len-place.ensures.len c.push.ensures.first c.push.ensures.places
+    c.reserve.ensures.ordered.tied few c.end-number.ensures entries c.len-place.ensures.len c.push.ensures.first c.push.ensures.places
     ∙ ap (λ l. l ++ (c.args.key, c.args.value) ∷ []) c.reserve.ensures.stored
 
 pub returns-clause-len : goal.returns-clause-len
@@ -63,5 +63,5 @@ returns-clause-len g c =
     let nowhere = subst (λ l. Nowhere test l) (sym c.reserve.ensures.pairs) c.requires.absent in
     let entries = on_is_ok c.insert.result c.insert.ensures.entries (c.insert.ensures.succeeds map) ∙ insert_entry-new g.K.PartialEq.eq m.map c.args.key _ (not_got test m.map.entries nowhere) in
     length_more m.map.entries m.log.first m.log.places.items c.args.key _ c.insert.new.self.entries c.len-place.result c.push.new.self.first c.push.new.self.places.items
-        c.reserve.ensures.ordered.tied few c.end-number.ensures entries c.len-place.ensures.len c.push.ensures.first c.push.ensures.places
+    c.reserve.ensures.ordered.tied few c.end-number.ensures entries c.len-place.ensures.len c.push.ensures.first c.push.ensures.places
     ∙ ap (λ n. n + 1) c.reserve.ensures.len

@@ -1,8 +1,5 @@
-use Rattle.std.proofs.Common.{ℕ, slice_set, ◌-◌, sym, ap, ◌∙◌, option_map, None}
+use Rattle.std.proofs.Common.{ℕ, slice_set, ◌-◌, sym, ap, ◌∙◌}
 use Rattle.std.specs.Option.{option_map_or}
-use Rattle.pin_recent.specs.Sound.{numbers}
-use Rattle.pin_recent.specs.declared.stamped.Stamped.{Stamped}
-use Rattle.std.proofs.lemmas.Option.{slice_get-map}
 use Rattle.pin_recent.proofs.Columns.{number_at, number_none}
 use Rattle.pin_recent.proofs.store.Store.settle.Goals as goal
 
@@ -21,10 +18,10 @@ returns-in-Some-clause-places g c =
     let s = c.args.self.now in
     c.put.ensures.places
     ∙ ap (λ o. option_map_or (λ (n : ℕ). slice_set s.log.places.items (n - s.log.first) c.args.place) o s.log.places.items)
-        (sym (number_at s.map.entries c.args.place (c.in-Some.field-0-0.now, c.in-Some.moved.now) (sym c.in-Some.ensures.entry)))
+    (sym (number_at s.map.entries c.args.place (c.in-Some.field-0-0.now, c.in-Some.moved.now) (sym c.in-Some.ensures.entry)))
 
 pub returns-in_default-clause-places : goal.returns-in_default-clause-places
 returns-in_default-clause-places g c =
     let s = c.args.self.now in
     ap (λ o. option_map_or (λ (n : ℕ). slice_set s.log.places.items (n - s.log.first) c.args.place) o s.log.places.items)
-        (sym (number_none s.map.entries c.args.place (sym c.in_default.ensures.entry)))
+    (sym (number_none s.map.entries c.args.place (sym c.in_default.ensures.entry)))

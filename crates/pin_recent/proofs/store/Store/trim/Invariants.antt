@@ -1,4 +1,4 @@
-use Rattle.std.proofs.Common.{◌≡◌, ◌+◌, ◌≤◌, length}
+use Rattle.std.proofs.Common.{◌≡◌, ◌≤◌, length}
 use Rattle.std.specs.VecDeque.{deque_capacity}
 use Rattle.pin_recent.specs.Sound.{Tied, numbers, stored, next_number}
 use Rattle.pin_recent.proofs.store.Store.trim.Given as goal
