@@ -1,0 +1,10 @@
+pub mod Places
+pub mod Picked
+pub mod Columns
+pub mod Order
+pub mod Found
+pub mod Pop
+pub mod Turn
+pub mod Touch
+pub mod Taken
+pub mod Push

@@ -1,0 +1,120 @@
+ghost use Rattle.std.specs.Prelude.{◌≡◌, ◌+◌, ◌^◌, ◌<◌, None, [], ◌∷◌, ◌++◌, if◌then◌else◌, is_some, IfErr, OnErr, OnOk, length, option_to_list, slice_get};
+ghost use Rattle.std.specs.Map.{lookup};
+ghost use Rattle.std.specs.Option.{option_copied, option_map};
+ghost use Rattle.pin_recent.specs.Recent.{in_order, touched};
+
+use crate::store::Store;
+use std::alloc::{AllocFailed, Global};
+use std::hash::{BuildHasher, Hash};
+use std::marker::Model;
+
+/// A map from keys to values in order of last use.
+///
+/// A push and a touch are uses; a look-up is none. Places are counted in 32 bits, so that it holds at most 4294967294 pairs.
+/// Besides the map it takes 8 bytes a pair for the number of the last use, and 8 to 16 for the order.
+#[derive(Drop)]
+pub struct Recent<K: Eq + Hash, V, S: BuildHasher> {
+    store: Store<K, V, S>,
+    uses: u64,
+}
+
+impl<K: Eq + Hash, V, S: BuildHasher> Model for Recent<K, V, S> {
+    ghost use Rattle.std.specs.Prelude.{◌+◌, ◌*◌, ◌≤◌, length};
+    ghost use Rattle.pin_recent.specs.Recent.{InOrder, in_order};
+    ghost use Rattle.pin_recent.specs.Sound.{Ordered, Trim, stored, spent};
+
+    ghost Value = { InOrder K V };
+
+    ghost view = { λ r. in_order (stored r.store) r.uses };
+
+    ghost invariant = { λ r. record {
+      ordered : Ordered r.store;
+      trim : Trim r.store;
+      counted : spent r.store ≤ 2 * r.uses + length r.store.map.entries;
+    } };
+}
+
+impl<K: Eq + Hash, V, S: BuildHasher> Recent<K, V, S> {
+    /// An empty map. It takes no memory until the first push.
+    pub fn new(alloc: Global, hasher: S) -> Self
+        ensures { result ≡ in_order [] 0 }
+    {
+        Recent {
+            store: Store::new(alloc, hasher),
+            uses: 0,
+        }
+    }
+
+    /// How many pairs there are.
+    pub fn len(&self) -> usize
+        ensures { result ≡ length self.now.pairs }
+    {
+        self.store.len()
+    }
+
+    /// How many uses there were. The number never falls.
+    pub fn uses(&self) -> u64
+        ensures { result ≡ self.now.uses }
+    {
+        self.uses
+    }
+
+    /// The value of a key. It is no use, and costs one look-up by hash.
+    pub fn find(&self, key: &K) -> Option<&V>
+        ensures { option_copied result ≡ lookup (K.eq key.now) self.now.pairs }
+    {
+        self.store.find(key)
+    }
+
+    /// The pair that wasn't used for longest. It costs a few machine instructions.
+    pub fn oldest(&self) -> Option<(&K, &V)>
+        ensures { option_map (λ p. (p.0.now, p.1.now)) result ≡ slice_get self.now.pairs 0 }
+    {
+        self.store.oldest()
+    }
+
+    /// Takes out the pair that wasn't used for longest, without memory.
+    pub fn pop_oldest(&mut self) -> Option<(K, V)>
+        requires { self.old.uses < 2 ^ 63 }
+        ensures oldest { self.old.pairs ≡ option_to_list result ++ self.new.pairs }
+        ensures uses { self.new.uses ≡ self.old.uses }
+    {
+        self.store.pop()
+    }
+}
+
+impl<K: Eq + Hash, V: Drop, S: BuildHasher> Recent<K, V, S> {
+    /// Gives a key's pair a new value, puts it last, and answers the old value. Where the key isn't there, nothing changes. It
+    /// takes no memory.
+    ///
+    /// It costs one look-up by hash and a few machine instructions; once in as many touches as there are pairs, or more seldom,
+    /// a pass over all of them besides.
+    pub fn touch(&mut self, key: &K, value: V) -> Option<V>
+        requires { self.old.uses < 2 ^ 63 }
+        ensures old { result ≡ lookup (K.eq key.now) self.old.pairs }
+        ensures touched { self.new.pairs ≡ touched (K.eq key.now) value self.old.pairs }
+        ensures uses { self.new.uses ≡ self.old.uses + (if is_some result then 1 else 0) }
+    {
+        let place = self.store.place_of(key)?;
+        let old = self.store.touch_at(place, value);
+        self.uses += 1;
+        Some(old)
+    }
+}
+
+impl<K: Eq + Hash + Drop, V: Drop, S: BuildHasher> Recent<K, V, S> {
+    /// Puts a pair whose key isn't there behind the others.
+    ///
+    /// Fails, with the pair handed back, where there is no memory, or with 4294967294 pairs there.
+    pub fn push(&mut self, key: K, value: V) -> Result<(), AllocFailed<(K, V)>>
+        requires absent { lookup (K.eq key) self.old.pairs ≡ None }
+        requires uses { self.old.uses < 2 ^ 63 }
+        ensures ok { OnOk result (self.new ≡ in_order (self.old.pairs ++ (key, value) ∷ []) (self.old.uses + 1)) }
+        ensures err { OnErr result (self.new ≡ self.old) }
+        ensures value_returned { IfErr result (λ failed. failed.value ≡ (key, value)) }
+    {
+        self.store.push(key, value)?;
+        self.uses += 1;
+        Ok(())
+    }
+}
