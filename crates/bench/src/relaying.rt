@@ -37,19 +37,24 @@ pub(crate) fn run(rt: &impl Runtime, alloc: Global, words: &[&str]) -> Result<()
     let times: u32 = words.first().context("how often?")?.parse()?;
     let what = words.get(1).copied();
     for part in PARTS {
-        if what.unwrap_or(part) != part {
-            continue;
+        if what.unwrap_or(part) == part {
+            relay_part(rt, alloc, part, times)?;
         }
-        let sent = match part {
-            "heads" => relay_heads(alloc, HEAD, times)?,
-            "hostile" => relay_heads(alloc, &hostile(alloc)?, times)?,
-            "bodies" => send_bodies(alloc, BodyKind::Length(SIZE as u64), &plain(alloc)?, times)?,
-            "chunks" => send_chunks(alloc, 16000, b"3e80\r\n", times)?,
-            "small_chunks" => send_chunks(alloc, 100, b"64\r\n", times)?,
-            _ => copy_responses(alloc, &plain(alloc)?, times)?,
-        };
-        println!(rt; "{part}, {times} times: {sent} bytes")?;
     }
+    Ok(())
+}
+
+/// Relays one of `PARTS` so many times, and prints how many bytes went out.
+fn relay_part(rt: &impl Runtime, alloc: Global, part: &str, times: u32) -> Result<()> {
+    let sent = match part {
+        "heads" => relay_heads(alloc, HEAD, times)?,
+        "hostile" => relay_heads(alloc, &hostile(alloc)?, times)?,
+        "bodies" => send_bodies(alloc, BodyKind::Length(SIZE as u64), &plain(alloc)?, times)?,
+        "chunks" => send_chunks(alloc, 16000, b"3e80\r\n", times)?,
+        "small_chunks" => send_chunks(alloc, 100, b"64\r\n", times)?,
+        _ => copy_responses(alloc, &plain(alloc)?, times)?,
+    };
+    println!(rt; "{part}, {times} times: {sent} bytes")?;
     Ok(())
 }
 
