@@ -1,7 +1,7 @@
 //! Worked rows: whole inputs with the answers that the product owes them, and brute force over small inputs.
 //!
 //! Tests alone, through the program's jobs over readers and writers. Texts of plans and sheets stand in `dual_cert_rows`,
-//! configurations beside their tests.
+//! and configurations with their reports in `lb_check_rows`.
 #![tactic(auto)]
 
 #[cfg(test)]
@@ -9,14 +9,4 @@ mod broken_files;
 #[cfg(test)]
 mod brute_force;
 #[cfg(test)]
-mod faults;
-#[cfg(test)]
-mod keywords;
-#[cfg(test)]
-mod limits;
-#[cfg(test)]
 mod plan_jobs;
-#[cfg(test)]
-mod reports;
-#[cfg(test)]
-mod spellings;
