@@ -11,7 +11,7 @@ use std::marker::Model;
 /// A map from keys to values in order of last use.
 ///
 /// A push and a touch are uses; a look-up is none. Places are counted in 32 bits, so that it holds at most 4294967294 pairs.
-/// Besides the map it takes 8 bytes a pair for the number of the last use, and 8 to 16 for the order.
+/// Besides the map it takes 8 bytes a pair for the number of the last use, and 8 to 24 for the order.
 #[derive(Drop)]
 pub struct Recent<K: Eq + Hash, V, S: BuildHasher> {
     store: Store<K, V, S>,
