@@ -12,6 +12,3 @@ mod laws;
 pub use book::Book;
 pub use fault::{CloseFault, OpenFault};
 pub use laws::maxconn_alone_is_the_limit;
-
-#[cfg(test)]
-mod tests;

@@ -6,8 +6,8 @@ use Rattle.std.proofs.lemmas.List.Elements.{All-weaker}
 use Rattle.std.proofs.lemmas.Option.{slice_get_past}
 use Rattle.lb_types_pins.specs.declared.kind.Row.{Row}
 use Rattle.pin_set.specs.Rows.{RowPermitsBelow}
-use Rattle.pin_groups_sheet.specs.Sheets.{AreBestForViews}
-use Rattle.pin_groups_sheet.proofs.Room.{best_for_views}
+use Rattle.cert_check_law.specs.Sheets.{AreBestForViews}
+use Rattle.cert_check_law.proofs.Room.{best_for_views}
 use Rattle.dual_cert_plan.specs.declared.server.Server.{Server}
 use Rattle.dual_cert_plan.specs.declared.server.PricedServer.{PricedServer}
 use Rattle.dual_cert_plan.specs.Sheets.{SheetParts, IsKind, is_usable}

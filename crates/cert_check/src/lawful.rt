@@ -7,7 +7,7 @@ ghost use Rattle.cert_check.specs.Ranges.{AreFew, ArePriced};
 ghost use Rattle.cert_check.specs.Verdict.{room};
 
 use dual_cert_plan::PricedServer;
-use lb_types::ServerId;
+use lb_types::MAX_SERVERS;
 use lb_types_pins::Row;
 
 /// Whether each pin goes to no server, or to one that it may be at.
@@ -42,11 +42,11 @@ pub(crate) fn is_within_capacity(servers: &[PricedServer], rows: &[Row]) -> bool
 }
 
 /// How many pins each server gets.
-fn loads(rows: &[Row]) -> [u32; ServerId::LIMIT]
+fn loads(rows: &[Row]) -> [u32; MAX_SERVERS]
     requires { AreFew rows.now }
-    ensures { (s : ℕ) → s < 128 → slice_index result s ≡ rows_load rows.now s }
+    ensures { (s : ℕ) → s < MAX_SERVERS → slice_index result s ≡ rows_load rows.now s }
 {
-    let mut loads = [0; ServerId::LIMIT];
+    let mut loads = [0; MAX_SERVERS];
     for row in rows {
         if let Some(server) = row.new_place {
             loads[server.index()] += row.count;

@@ -18,6 +18,3 @@ pub use cert_check_law::{
 };
 pub use fault::CheckFault;
 pub use verdict::check;
-
-#[cfg(test)]
-mod tests;

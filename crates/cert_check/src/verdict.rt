@@ -1,6 +1,6 @@
 ghost use Rattle.std.specs.Prelude.{◌≡◌, ◌↔◌, IsOk, IfOk, OnOk, IsErrOf};
 ghost use Rattle.pin_set.specs.Rows.{rows_score};
-ghost use Rattle.pin_groups_sheet.specs.Sheets.{AreBestForViews};
+ghost use Rattle.cert_check_law.specs.Sheets.{AreBestForViews};
 ghost use Rattle.cert_check.specs.Verdict.{verdict, IsMadeFor, IsPermitted, IsWithinCapacity, IsShown};
 
 use crate::CheckFault;

@@ -7,14 +7,15 @@ use Rattle.http_relay_wire.specs.Wires.{Reading}
 use Rattle.http_relay_wire.specs.Faults.{after_read_fault, after_write_fault}
 use Rattle.http_relay_wire.specs.declared.fault.WireFault.{WireFault}
 use Rattle.http_relay_wire.specs.declared.fault.FaultCounts.{FaultCounts}
+use Rattle.check_workers_probe.specs.declared.judge.TheConstants.{MOST_BYTES, MOST_FIELDS}
 use Rattle.check_workers_probe.specs.declared.judge.Verdict.{Verdict}
 use Rattle.check_workers_probe.specs.declared.judge.Verdict.TheVariants.{Success, Failure, Unfinished}
 
 -- the text is this head and then rest, and the head is that of a success within the limits
 pub record IsSuccess (text : List ℕ) (head : ResponseHead) (rest : List ℕ) : Type 0 where
   pub reads : ReadsResponse text head rest
-  pub size : length (print_response head) ≤ 16384
-  pub fields : length head.fields ≤ 100
+  pub size : length (print_response head) ≤ MOST_BYTES
+  pub fields : length head.fields ≤ MOST_FIELDS
   pub least : 200 ≤ status_code head
   pub greatest : status_code head ≤ 399
 
@@ -42,11 +43,11 @@ IsUnsent text before after = (text ≡ []) × ((fault : WireFault) × (after ≡
 
 -- a read failed, while what had come was less than a head
 abbrev pub IsBroken : List ℕ → FaultCounts → FaultCounts → Type 0
-IsBroken text before after = IsUnfinished 16384 text × ((fault : WireFault) × (after ≡ after_read_fault fault before))
+IsBroken text before after = IsUnfinished MOST_BYTES text × ((fault : WireFault) × (after ≡ after_read_fault fault before))
 
 -- the text is less than a head, and it is all that came: behind it no byte is left, and a read has told so
 abbrev pub IsCutShort : List ℕ → Reading → Type 0
-IsCutShort text reading = IsUnfinished 16384 text × IsAtEnd reading.unread × (reading.ended ≡ true)
+IsCutShort text reading = IsUnfinished MOST_BYTES text × IsAtEnd reading.unread × (reading.ended ≡ true)
 
 -- why a probe that read this text says no, and which failures it counted: one, or none
 abbrev pub HasReason : List ℕ → Reading → FaultCounts → FaultCounts → Type 0

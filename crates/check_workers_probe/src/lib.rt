@@ -12,6 +12,3 @@ mod probing;
 
 pub use prober::Probe;
 pub use probing::probe;
-
-#[cfg(test)]
-mod tests;

@@ -5,7 +5,7 @@ ghost use Rattle.http_relay_wire.specs.Wires.{AppendsBeginning};
 ghost use Rattle.check_workers_probe.specs.Probes.{Probed};
 
 use crate::judge::{MOST_BYTES, Verdict, judge};
-use check_rule::CheckRule;
+use check_workers_rule::CheckRule;
 use http_relay_wire::{Wire, WireFault, write_all};
 
 /// Whether the server behind a wire that was just connected is well. It takes no memory: the response's head is read into

@@ -1,4 +1,4 @@
-pub use Rattle.command_socket_resolve.specs.Resolved
+pub mod Resolved
 pub use Rattle.command_socket_words.specs.Commands
 pub use Rattle.command_socket_words.specs.Faults
 pub use Rattle.command_socket_words.specs.Lines

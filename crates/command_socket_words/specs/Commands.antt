@@ -6,6 +6,7 @@ use Rattle.lb_types_text.specs.Parts.{parts}
 use Rattle.server_state.specs.declared.settings.AdminState.{AdminState}
 use Rattle.server_state.specs.declared.settings.AdminState.TheVariants.{Ready, Maint}
 use Rattle.server_state.specs.declared.change.Setting.TheVariants.{Admin, Weight, MaxConnections, MaxPins}
+use Rattle.command_socket_words.specs.declared.line.TheConstants.{LONGEST_LINE}
 use Rattle.command_socket_words.specs.declared.command.ServerName.{ServerName}
 use Rattle.command_socket_words.specs.declared.command.Shown.{Shown}
 use Rattle.command_socket_words.specs.declared.command.Shown.TheVariants as shown
@@ -91,4 +92,4 @@ commands_among texts = map command_of (filter is_filled (map words_in texts))
 -- the commands and faults of a line, in order. A line of more than 4096 bytes is one fault
 unfoldable pub commands_of : List ℕ → List (Result Command CommandFault)
 commands_of line =
-    if nat_lt 4096 (length line) then Err UnknownCommand ∷ [] else commands_among (parts 59 line)
+    if nat_lt LONGEST_LINE (length line) then Err UnknownCommand ∷ [] else commands_among (parts 59 line)

@@ -3,6 +3,7 @@ ghost use Rattle.std.specs.List.{list_all};
 ghost use Rattle.command_socket_words.specs.declared.command.Command.{Command};
 ghost use Rattle.command_socket_words.specs.declared.fault.CommandFault.{CommandFault};
 ghost use Rattle.command_socket_words.specs.declared.fault.CommandFault.TheVariants.{UnknownCommand, MissingWord, BadNumber};
+ghost use Rattle.command_socket_words.specs.declared.line.TheConstants.{LONGEST_LINE};
 ghost use Rattle.command_socket_words.specs.Commands.{command_of, commands_of};
 ghost use Rattle.command_socket_words.specs.Lines.{are_words, line_of};
 ghost use Rattle.command_socket_words.specs.Meanings.{IsCommand, Says};
@@ -38,6 +39,6 @@ pub fn the_first_fault_is_told()
 /// Commands whose words stand in a line, with spaces and semicolons between them, are each read by their words.
 pub fn a_line_says_its_commands()
     ensures { (commands : List (List Word)) → list_all are_words commands ≡ true
-        → length (line_of commands) ≤ 4096
+        → length (line_of commands) ≤ LONGEST_LINE
         → commands_of (line_of commands) ≡ map command_of commands }
 {}

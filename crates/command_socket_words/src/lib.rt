@@ -2,7 +2,8 @@
 //!
 //! Promised of `read_commands`: a line gives exactly the commands and faults that `specs/Commands.antt` says, in order,
 //! so long as memory is there. A command is read exactly where its words are those of the table in
-//! `specs/Meanings.antt`, and of a command's faults the first from the left is told (`laws`). Start at `read_commands`.
+//! `specs/Meanings.antt`, and of a command's faults the first from the left is told (`laws`). Start at `read_commands`. Private to
+//! `command_socket`, which re-exports it, and to the tests in `command_socket_rows`.
 #![tactic(auto)]
 
 mod command;
@@ -19,6 +20,3 @@ pub use fault::CommandFault;
 pub use laws::{a_line_says_its_commands, the_first_fault_is_told, words_say_a_command};
 pub use line::read_commands;
 pub use server_state::{AdminState, Setting};
-
-#[cfg(test)]
-mod tests;

@@ -52,20 +52,15 @@ pub(crate) fn read_setting(words: &mut Words) -> Result<Setting, CommandFault>
     ensures { result ≡ setting_of words.old }
 {
     let kind = words.due_word()?;
-    if is(kind, b"state") {
-        let setting = read_admin(words.due_word()?)?;
-        words.end()?;
-        return Ok(setting);
-    }
-    if is(kind, b"health") {
-        let setting = read_health(words.due_word()?)?;
-        words.end()?;
-        return Ok(setting);
-    }
-    if is(kind, b"weight") {
-        let setting = read_weight(words.due_word()?)?;
-        words.end()?;
-        return Ok(setting);
-    }
-    Err(CommandFault::UnknownCommand)
+    let setting = if is(kind, b"state") {
+        read_admin(words.due_word()?)?
+    } else if is(kind, b"health") {
+        read_health(words.due_word()?)?
+    } else if is(kind, b"weight") {
+        read_weight(words.due_word()?)?
+    } else {
+        return Err(CommandFault::UnknownCommand);
+    };
+    words.end()?;
+    Ok(setting)
 }

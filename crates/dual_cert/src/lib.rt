@@ -4,7 +4,7 @@
 //! first fault; `write_plan` and `write_sheet` write it to a `Counted` writer, or else a write failed and a beginning of
 //! the text went out.
 //!
-//! This crate passes on, for the crates above, what stands in four: `dual_cert_text` and `dual_cert_sheet` read,
+//! This crate re-exports, for the crates above, what stands in four: `dual_cert_text` and `dual_cert_sheet` read,
 //! `dual_cert_write` and `dual_cert_sheet_write` write. Start at `read_plan`.
 #![tactic(auto)]
 
@@ -13,6 +13,3 @@ pub use dual_cert_sheet::{never_a_plan, one_text as one_sheet_text, read_sheet};
 pub use dual_cert_sheet_write::write_sheet;
 pub use dual_cert_text::{ReadError, TextFault, one_text as one_plan_text, read_plan};
 pub use dual_cert_write::{WriteFailed, write_plan};
-
-#[cfg(test)]
-mod tests;

@@ -1,5 +1,6 @@
 -- What a plan is, and which sheet it speaks of. A plan is a solution of the transportation problem with dual prices.
 use Rattle.std.specs.Prelude.{◌≡◌, ℕ, ◌+◌, ◌^◌, ◌<◌, ◌≤◌, true, None, List, [], ◌∷◌, map, sum_by, All, AllPairs, if◌then◌else◌}
+use Rattle.lb_types.specs.declared.limits.TheConstants.{MAX_PINS}
 use Rattle.lb_types_pins.specs.declared.kind.PinKind.{PinKind}
 use Rattle.lb_types_pins.specs.declared.kind.Group.{Group}
 use Rattle.lb_types_pins.specs.declared.kind.Row.{Row}
@@ -29,7 +30,7 @@ pub record IsPlan (plan : PlanParts) : Type 0 where
   pub kinds : All (λ r. IsKind (servers_of plan.servers) r.kind) plan.rows
   pub new_places : All (λ r. IsListed (servers_of plan.servers) r.new_place) plan.rows
   pub counted : All (λ r. 1 ≤ r.count) plan.rows
-  pub total : sum_by (λ r. r.count) plan.rows ≤ 16777216
+  pub total : sum_by (λ r. r.count) plan.rows ≤ MAX_PINS
   pub rising : AllPairs (λ a b. row_before a b ≡ true) plan.rows
 
 -- the row's pins as a group

@@ -2,6 +2,7 @@
 -- and demand (the servers' capacities). Places and sets of servers are in `lb_types`, kinds of pins in `lb_types_pins`.
 use Rattle.std.specs.Prelude.{◌≡◌, ◌≢◌, ℕ, ◌^◌, ◌<◌, ◌≤◌, Bool, true, is_some, Option, option_and_then, List, slice_get, length, sum_by, All, AllPairs}
 use Rattle.std.specs.Option.{ForSome}
+use Rattle.lb_types.specs.declared.limits.TheConstants.{MAX_COST, MAX_PINS, MAX_SERVERS}
 use Rattle.lb_types.specs.Names.{is_name}
 use Rattle.lb_types.specs.Servers.{has}
 use Rattle.lb_types_pins.specs.declared.kind.PinKind.{PinKind}
@@ -23,7 +24,7 @@ is_usable servers server = is_some (capacity_of servers server)
 
 -- at most 128 servers with distinct names, and capacities below 2^32
 pub record AreServers (servers : List Server) : Type 0 where
-  pub few : length servers ≤ 128
+  pub few : length servers ≤ MAX_SERVERS
   pub named : All (λ s. is_name s.name ≡ true) servers
   pub distinct : AllPairs (λ a b. a.name ≢ b.name) servers
   pub capacities : All (λ s. ForSome s.capacity (λ c. c < 2 ^ 32)) servers
@@ -37,7 +38,7 @@ pub record IsKind (servers : List Server) (kind : PinKind) : Type 0 where
   pub place : IsListed servers kind.place
   pub permitted : (s : ℕ) → has kind.permitted s ≡ true → is_usable servers s ≡ true
   pub cost_from : 1 ≤ kind.cost
-  pub cost_to : kind.cost ≤ 1000
+  pub cost_to : kind.cost ≤ MAX_COST
 
 pub record SheetParts : Type 0 where
   pub version : ℕ
@@ -53,5 +54,5 @@ pub record IsSheet (sheet : SheetParts) : Type 0 where
   pub servers : AreServers sheet.servers
   pub kinds : All (λ g. IsKind sheet.servers g.kind) sheet.groups
   pub counted : All (λ g. 1 ≤ g.count) sheet.groups
-  pub total : sum_by (λ g. g.count) sheet.groups ≤ 16777216
+  pub total : sum_by (λ g. g.count) sheet.groups ≤ MAX_PINS
   pub rising : AllPairs (λ a b. kind_before a.kind b.kind ≡ true) sheet.groups

@@ -3,6 +3,7 @@ ghost use Rattle.dual_cert_plan.specs.Plans.{servers_of, group_of, groups_of};
 ghost use Rattle.std.specs.Cmp.{partial_equiv_from_equiv};
 ghost use Rattle.std.specs.Cmp.Rules.{comparing};
 ghost use Rattle.std.proofs.Common.{rules};
+ghost use Rattle.lb_types.specs.declared.limits.TheConstants.{MAX_PINS};
 ghost use Rattle.dual_cert_plan.specs.Equality.{equal_plans};
 
 use crate::{PricedServer, Server, Sheet};
@@ -105,7 +106,7 @@ fn servers_of(alloc: Global, servers: &[PricedServer]) -> Result<Vec<Server>, Al
 }
 
 fn groups_of(alloc: Global, rows: &[Row]) -> Result<Vec<Group>, AllocError>
-    requires { sum_by (λ r. r.count) rows.now ≤ 16777216 }
+    requires { sum_by (λ r. r.count) rows.now ≤ MAX_PINS }
     ensures { IfOk result (λ groups. groups.items ≡ groups_of rows.now) }
 {
     let mut groups = Vec::new(alloc);

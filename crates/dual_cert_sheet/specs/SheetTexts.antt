@@ -3,6 +3,7 @@ use Rattle.std.specs.Prelude.{ℕ, ◌+◌, ◌-◌, nat_le, Bool, true, false, 
 use Rattle.std.specs.List.{list_any}
 use Rattle.std.specs.Option.{ok_or, option_map_or}
 use Rattle.std.specs.Str.{bytes_eq}
+use Rattle.lb_types.specs.declared.limits.TheConstants.{MAX_COST, MAX_PINS}
 use Rattle.lb_types_pins.specs.declared.kind.Group.{Group}
 use Rattle.lb_types_pins.specs.Kinds.{kind_before}
 use Rattle.dual_cert_plan.specs.declared.server.Server.{Server}
@@ -58,7 +59,7 @@ comes_next groups group = option_map_or (λ last. kind_before last.kind group.ki
 -- the group that a line says, behind groups of so many pins
 unfoldable pub next_group : List Group → ℕ → GroupWords → Result Group TextFault
 next_group groups pins said =
-    if not (nat_le (pins + said.count) 16777216 && nat_le said.cost 1000) then Err TooLarge
+    if not (nat_le (pins + said.count) MAX_PINS && nat_le said.cost MAX_COST) then Err TooLarge
     else (if said.permitted.is_rising && comes_next groups (group_of said) then Ok (group_of said) else Err NotCanonical)
 
 -- line n says a group

@@ -1,4 +1,5 @@
 ghost use Rattle.std.specs.Prelude.{◌≡◌, ◌≤◌, length};
+ghost use Rattle.lb_types.specs.declared.limits.TheConstants.{MAX_SERVERS};
 ghost use Rattle.dual_cert_text.specs.ServerLines.{AreDistinct};
 ghost use Rattle.dual_cert_sheet.specs.GroupLines.{group_words_of};
 
@@ -24,7 +25,7 @@ pub(crate) fn read_group_words(
     servers: &[PricedServer],
     words: &mut Parts,
 ) -> Option<GroupWords>
-    requires few { length servers.now ≤ 128 }
+    requires few { length servers.now ≤ MAX_SERVERS }
     requires distinct { AreDistinct servers.now }
     ensures { result ≡ group_words_of has_costs servers.now words.old }
 {

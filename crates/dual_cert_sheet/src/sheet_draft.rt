@@ -1,4 +1,5 @@
 ghost use Rattle.std.specs.Prelude.{◌≡◌, ◌+◌, ◌<◌, ◌≤◌, ◌||◌, ◌==◌, false, not, length, IfOk, OnOk};
+ghost use Rattle.lb_types.specs.declared.limits.TheConstants.{MAX_SERVERS};
 ghost use Rattle.lb_types_text.specs.Parts.{parts};
 ghost use Rattle.dual_cert_plan.specs.Plans.{servers_of};
 ghost use Rattle.dual_cert_plan.specs.Sheets.{IsSheet};
@@ -11,6 +12,7 @@ use dual_cert_plan::{PricedServer, Server, Sheet};
 use dual_cert_text::server_line::read_server;
 use dual_cert_text::words::is;
 use dual_cert_text::{ReadError, TextFault};
+use lb_types::{MAX_COST, MAX_PINS};
 use lb_types_pins::{Group, PinKind};
 use lb_types_text::Parts;
 use std::alloc::{AllocError, Global};
@@ -134,7 +136,7 @@ fn read_free_server(
     words: &mut Parts,
 ) -> Result<PricedServer, TextFault>
     ensures exact { result ≡ server_at number false servers.now words.old }
-    ensures few { OnOk result (length servers.now < 128) }
+    ensures few { OnOk result (length servers.now < MAX_SERVERS) }
 {
     read_server(number, false, servers, words)
 }
@@ -142,14 +144,14 @@ fn read_free_server(
 /// The group that a line says, behind groups of `count` pins.
 #[tactic(auto, unfolding(crate::specs::SheetTexts::next_group))]
 fn next_group(groups: &[Group], count: u64, said: &GroupWords) -> Result<Group, TextFault>
-    requires { count ≤ 16777216 }
+    requires { count ≤ MAX_PINS }
     ensures exact { result ≡ next_group groups.now count said.now }
-    ensures fits { IfOk result (λ group. count + group.count ≤ 16777216) }
+    ensures fits { IfOk result (λ group. count + group.count ≤ MAX_PINS) }
 {
-    if said.count > 16777216 - count {
+    if said.count > MAX_PINS - count {
         return Err(TextFault::TooLarge);
     }
-    if said.cost > 1000 {
+    if said.cost > MAX_COST {
         return Err(TextFault::TooLarge);
     }
     if !said.permitted.is_rising {
@@ -163,8 +165,8 @@ fn next_group(groups: &[Group], count: u64, said: &GroupWords) -> Result<Group, 
 }
 
 fn group_of(said: &GroupWords) -> Group
-    requires count { said.now.count ≤ 16777216 }
-    requires cost { said.now.cost ≤ 1000 }
+    requires count { said.now.count ≤ MAX_PINS }
+    requires cost { said.now.cost ≤ MAX_COST }
     ensures { result ≡ group_of said.now }
 {
     Group {

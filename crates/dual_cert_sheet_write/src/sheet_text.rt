@@ -1,5 +1,6 @@
 ghost use Rattle.std.specs.Prelude.{◌≡◌, ◌≤◌, ◌∷◌, [], ◌++◌, map, length, All, Ok, OnOk, OnErr};
 ghost use Rattle.std.specs.Io.KnownBytes.{Appends};
+ghost use Rattle.lb_types.specs.declared.limits.TheConstants.{MAX_SERVERS};
 ghost use Rattle.lb_types_counted.specs.Writers.{AppendsFront, Rises};
 ghost use Rattle.dual_cert_text.specs.Spellings.{text_of_lines};
 ghost use Rattle.dual_cert_sheet.specs.SheetSpellings.{sheet_server_line, group_line, sheet_spelling};
@@ -87,7 +88,7 @@ fn send_groups<W: Write>(
     servers: &[Server],
     groups: &[Group],
 ) -> Sent
-    requires few { length servers.now ≤ 128 }
+    requires few { length servers.now ≤ MAX_SERVERS }
     requires listed { All (λ group. HasListedSet (length servers.now) group.kind) groups.now }
     ensures { Sends out.old sent out.new result
         (text_of_lines (map (λ group. group_line has_costs servers.now group) groups.now)) }
@@ -106,7 +107,7 @@ fn send_group<W: Write>(
     servers: &[Server],
     group: &Group,
 ) -> Sent
-    requires few { length servers.now ≤ 128 }
+    requires few { length servers.now ≤ MAX_SERVERS }
     requires listed { HasListedSet (length servers.now) group.now.kind }
     ensures { Sends out.old sent out.new result
         (group_line has_costs servers.now group.now ++ 10 ∷ []) }

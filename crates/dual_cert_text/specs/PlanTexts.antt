@@ -3,6 +3,7 @@ use Rattle.std.specs.Prelude.{ℕ, ◌+◌, ◌-◌, nat_le, Bool, true, ◌&&�
 use Rattle.std.specs.List.{list_any}
 use Rattle.std.specs.Option.{ok_or, option_map_or}
 use Rattle.std.specs.Str.{bytes_eq}
+use Rattle.lb_types.specs.declared.limits.TheConstants.{MAX_COST, MAX_PINS}
 use Rattle.lb_types_pins.specs.declared.kind.Row.{Row}
 use Rattle.lb_types_pins.specs.Kinds.{row_before}
 use Rattle.dual_cert_plan.specs.declared.server.PricedServer.{PricedServer}
@@ -48,7 +49,7 @@ comes_next rows row = option_map_or (λ last. row_before last row) (slice_get ro
 -- the row that a line says, behind rows of so many pins
 unfoldable pub next_row : List Row → ℕ → RowWords → Result Row TextFault
 next_row rows pins said =
-    if not (nat_le (pins + said.count) 16777216 && nat_le said.cost 1000) then Err TooLarge
+    if not (nat_le (pins + said.count) MAX_PINS && nat_le said.cost MAX_COST) then Err TooLarge
     else (if said.permitted.is_rising && comes_next rows (row_of said) then Ok (row_of said) else Err NotCanonical)
 
 -- line n says a row

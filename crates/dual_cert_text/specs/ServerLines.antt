@@ -3,6 +3,7 @@
 use Rattle.std.specs.Prelude.{◌≢◌, ℕ, ◌^◌, Bool, true, false, ◌&&◌, nat_lt, is_none, Option, Some, None, position, List, [], ◌∷◌, length, AllPairs, codes, Result, Ok, Err, if◌then◌else◌}
 use Rattle.std.specs.Option.{ok_or, option_map_or}
 use Rattle.std.specs.Str.{bytes_eq}
+use Rattle.lb_types.specs.declared.limits.TheConstants.{MAX_SERVERS}
 use Rattle.lb_types.specs.Names.{is_name}
 use Rattle.dual_cert_plan.specs.declared.server.PricedServer.{PricedServer}
 use Rattle.dual_cert_text.specs.declared.fault.TextFault.{TextFault}
@@ -47,4 +48,4 @@ priced_server said = record { server = record { name = said.name; capacity = sai
 unfoldable pub server_at : ℕ → Bool → List PricedServer → List (List ℕ) → Result PricedServer TextFault
 server_at n is_priced servers words = do
   said ← ok_or (server_words_of is_priced servers words) (BadLine n)
-  if nat_lt (length servers) 128 && in_range said.usage then Ok (priced_server said) else Err TooLarge
+  if nat_lt (length servers) MAX_SERVERS && in_range said.usage then Ok (priced_server said) else Err TooLarge

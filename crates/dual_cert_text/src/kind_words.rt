@@ -1,4 +1,5 @@
 ghost use Rattle.std.specs.Prelude.{◌≡◌, ◌<◌, ◌≤◌, ◌&&◌, nat_le, true, length};
+ghost use Rattle.lb_types.specs.declared.limits.TheConstants.{MAX_SERVERS};
 ghost use Rattle.lb_types.specs.Servers.{with_server};
 ghost use Rattle.lb_types_text.specs.Parts.{parts};
 ghost use Rattle.dual_cert_text.specs.ServerLines.{AreDistinct};
@@ -50,7 +51,7 @@ fn is_dash(word: &[u8]) -> bool
 /// The place that the word names.
 #[tactic(auto, unfolding(crate::specs::RowLines::place_of))]
 pub fn read_place(servers: &[PricedServer], word: &[u8]) -> Option<Place>
-    requires { length servers.now ≤ 128 }
+    requires { length servers.now ≤ MAX_SERVERS }
     ensures { result ≡ place_of servers.now word.now }
 {
     if is_dash(word) {
@@ -72,7 +73,7 @@ fn is_open(servers: &[PricedServer], server: usize) -> bool
 /// The usable server that the word names, looked for from the server `from` on first.
 #[tactic(auto, unfolding(crate::specs::RowLines::usable_named))]
 fn read_usable(servers: &[PricedServer], from: usize, word: &[u8]) -> Option<ServerId>
-    requires few { length servers.now ≤ 128 }
+    requires few { length servers.now ≤ MAX_SERVERS }
     requires distinct { AreDistinct servers.now }
     requires within { from ≤ length servers.now }
     ensures { result ≡ usable_named servers.now word.now }
@@ -87,7 +88,7 @@ fn read_usable(servers: &[PricedServer], from: usize, word: &[u8]) -> Option<Ser
 /// The set that the word names.
 #[tactic(auto, unfolding(crate::specs::RowLines::set_of))]
 pub fn read_set(servers: &[PricedServer], word: &[u8]) -> Option<SetWord>
-    requires few { length servers.now ≤ 128 }
+    requires few { length servers.now ≤ MAX_SERVERS }
     requires distinct { AreDistinct servers.now }
     ensures { result ≡ set_of servers.now word.now }
 {
@@ -98,7 +99,7 @@ pub fn read_set(servers: &[PricedServer], word: &[u8]) -> Option<SetWord>
 }
 
 fn read_members(servers: &[PricedServer], mut names: Parts) -> Option<SetWord>
-    requires few { length servers.now ≤ 128 }
+    requires few { length servers.now ≤ MAX_SERVERS }
     requires distinct { AreDistinct servers.now }
     ensures { result ≡ members_of servers.now names.entry }
 {

@@ -4,8 +4,8 @@
 //! spelling begins another (`one_text`). The spelling is in `specs/Spellings.antt`, the reading with its faults in
 //! `specs/Texts.antt` and `specs/PlanTexts.antt`. Start at `read_plan`.
 //!
-//! Texts of sheets have heading, server lines, places, sets and costs alike, so the modules that read these are public for
-//! the crate `dual_cert_sheet`.
+//! Private to `dual_cert`. Texts of sheets have heading, server lines, places, sets and costs alike, so the modules that
+//! read these are public for the crate `dual_cert_sheet`.
 #![tactic(auto)]
 
 mod fault;
@@ -20,6 +20,3 @@ pub mod words;
 pub use dual_cert_plan::{Plan, PricedServer, Server, Sheet};
 pub use fault::{ReadError, TextFault};
 pub use plan_text::{a_beginning_is_truncated, a_fault_stays, one_text, read_plan};
-
-#[cfg(test)]
-mod tests;

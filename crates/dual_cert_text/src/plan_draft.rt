@@ -9,6 +9,7 @@ use crate::server_line::read_server;
 use crate::words::is;
 use crate::{ReadError, TextFault};
 use dual_cert_plan::{Plan, PricedServer};
+use lb_types::{MAX_COST, MAX_PINS};
 use lb_types_pins::{PinKind, Row};
 use lb_types_text::Parts;
 use std::alloc::Global;
@@ -119,14 +120,14 @@ impl PlanDraft {
 /// The row that a line says, behind rows of `count` pins.
 #[tactic(auto, unfolding(crate::specs::PlanTexts::next_row))]
 fn next_row(rows: &[Row], count: u64, said: &RowWords) -> Result<Row, TextFault>
-    requires { count ≤ 16777216 }
+    requires { count ≤ MAX_PINS }
     ensures exact { result ≡ next_row rows.now count said.now }
-    ensures fits { IfOk result (λ row. count + row.count ≤ 16777216) }
+    ensures fits { IfOk result (λ row. count + row.count ≤ MAX_PINS) }
 {
-    if said.count > 16777216 - count {
+    if said.count > MAX_PINS - count {
         return Err(TextFault::TooLarge);
     }
-    if said.cost > 1000 {
+    if said.cost > MAX_COST {
         return Err(TextFault::TooLarge);
     }
     if !said.permitted.is_rising {
@@ -140,8 +141,8 @@ fn next_row(rows: &[Row], count: u64, said: &RowWords) -> Result<Row, TextFault>
 }
 
 fn row_of(said: &RowWords) -> Row
-    requires count { said.now.count ≤ 16777216 }
-    requires cost { said.now.cost ≤ 1000 }
+    requires count { said.now.count ≤ MAX_PINS }
+    requires cost { said.now.cost ≤ MAX_COST }
     ensures { result ≡ row_of said.now }
 {
     Row {

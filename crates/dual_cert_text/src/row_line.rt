@@ -1,4 +1,5 @@
 ghost use Rattle.std.specs.Prelude.{◌≡◌, ◌≤◌, length};
+ghost use Rattle.lb_types.specs.declared.limits.TheConstants.{MAX_SERVERS};
 ghost use Rattle.dual_cert_text.specs.ServerLines.{AreDistinct};
 ghost use Rattle.dual_cert_text.specs.RowLines.{row_words_of};
 
@@ -25,7 +26,7 @@ pub(crate) fn read_row_words(
     servers: &[PricedServer],
     words: &mut Parts,
 ) -> Option<RowWords>
-    requires few { length servers.now ≤ 128 }
+    requires few { length servers.now ≤ MAX_SERVERS }
     requires distinct { AreDistinct servers.now }
     ensures { result ≡ row_words_of has_costs servers.now words.old }
 {

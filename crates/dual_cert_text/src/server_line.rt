@@ -5,7 +5,7 @@ ghost use Rattle.dual_cert_text.specs.ServerLines.{AreDistinct, server_named, us
 use crate::TextFault;
 use crate::words::{is, read_keyed};
 use dual_cert_plan::{PricedServer, Server};
-use lb_types::Name;
+use lb_types::{MAX_SERVERS, Name};
 use lb_types_text::Parts;
 
 /// What a server line says of its server, in numbers of any size.
@@ -112,10 +112,10 @@ pub fn read_server(
     words: &mut Parts,
 ) -> Result<PricedServer, TextFault>
     ensures exact { result ≡ server_at number is_priced servers.now words.old }
-    ensures few { OnOk result (length servers.now < 128) }
+    ensures few { OnOk result (length servers.now < MAX_SERVERS) }
 {
     let said = read_server_words(is_priced, servers, words).ok_or(TextFault::BadLine(number))?;
-    if servers.len() >= 128 {
+    if servers.len() >= MAX_SERVERS {
         return Err(TextFault::TooLarge);
     }
     if !is_in_range(&said.usage) {

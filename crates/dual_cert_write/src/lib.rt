@@ -2,7 +2,7 @@
 //!
 //! Promised: `write_plan` writes the plan's one spelling, or else a write failed and a beginning of the spelling went out.
 //! The spelling is that of the crate `dual_cert_text`, in its `specs/Spellings.antt`. Nothing here takes memory. Start at
-//! `write_plan`.
+//! `write_plan`. Private to `dual_cert`.
 //!
 //! A sheet is written in the same pieces: `sending`, which sends words and lines until a write fails, and `words`, which
 //! spells what lines of plans and of sheets share, are public for the crate `dual_cert_sheet_write`.
@@ -15,6 +15,3 @@ mod write_failed;
 
 pub use plan_text::write_plan;
 pub use write_failed::WriteFailed;
-
-#[cfg(test)]
-mod tests;

@@ -1,5 +1,6 @@
 ghost use Rattle.std.specs.Prelude.{◌≡◌, ◌≤◌, ◌∷◌, [], ◌++◌, map, length, All, Ok, OnOk, OnErr};
 ghost use Rattle.std.specs.Io.KnownBytes.{Appends};
+ghost use Rattle.lb_types.specs.declared.limits.TheConstants.{MAX_SERVERS};
 ghost use Rattle.lb_types_counted.specs.Writers.{AppendsFront, Rises};
 ghost use Rattle.dual_cert_plan.specs.Plans.{IsPlan};
 ghost use Rattle.dual_cert_text.specs.PlanTexts.{needs_costs, plan_of_text};
@@ -92,7 +93,7 @@ fn send_rows<W: Write>(
     servers: &[PricedServer],
     rows: &[Row],
 ) -> Sent
-    requires few { length servers.now ≤ 128 }
+    requires few { length servers.now ≤ MAX_SERVERS }
     requires listed { All (λ row. HasListedSet (length servers.now) row.kind) rows.now }
     ensures { Sends out.old sent out.new result
         (text_of_lines (map (λ row. row_line has_costs servers.now row) rows.now)) }
@@ -111,7 +112,7 @@ fn send_row<W: Write>(
     servers: &[PricedServer],
     row: &Row,
 ) -> Sent
-    requires few { length servers.now ≤ 128 }
+    requires few { length servers.now ≤ MAX_SERVERS }
     requires listed { HasListedSet (length servers.now) row.now.kind }
     ensures { Sends out.old sent out.new result (row_line has_costs servers.now row.now ++ 10 ∷ []) }
 {

@@ -1,5 +1,6 @@
 //! What lines of plans and of sheets share: the heading, places, sets and costs.
 ghost use Rattle.std.specs.Prelude.{◌≡◌, ℕ, ◌<◌, ◌≤◌, true, map, length};
+ghost use Rattle.lb_types.specs.declared.limits.TheConstants.{MAX_SERVERS};
 ghost use Rattle.lb_types.specs.Servers.{has};
 ghost use Rattle.dual_cert_text.specs.Spellings.{text_of_lines, heading_lines, name_at, place_word, set_word};
 ghost use Rattle.dual_cert_write.specs.Sending.{Sends, form_word, cost_text, member_text, line_end, HasListedSet};
@@ -109,7 +110,7 @@ fn send_set<W: Write, S: Listed>(
     servers: &[S],
     set: ServerSet,
 ) -> Sent
-    requires few { length servers.now ≤ 128 }
+    requires few { length servers.now ≤ MAX_SERVERS }
     requires listed { (server : ℕ) → has set server ≡ true → server < length servers.now }
     ensures { Sends out.old sent out.new result (set_word (map S.priced servers.now) set) }
 {
@@ -143,7 +144,7 @@ pub fn send_line_end<W: Write, S: Listed>(
     has_costs: bool,
     kind: &PinKind,
 ) -> Sent
-    requires few { length servers.now ≤ 128 }
+    requires few { length servers.now ≤ MAX_SERVERS }
     requires listed { HasListedSet (length servers.now) kind.now }
     ensures { Sends out.old sent out.new result (line_end has_costs (map S.priced servers.now) kind.now) }
 {

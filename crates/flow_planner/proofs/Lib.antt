@@ -1,2 +1,5 @@
+pub mod BlankSteps
+pub mod FillSteps
+pub mod RowSteps
 pub mod ServerLists
 pub mod Writing

@@ -17,10 +17,10 @@ use Rattle.flow_planner_net.specs.Networks.{NetworkParts, size, count, no_group}
 use Rattle.flow_planner_net.specs.States.{used_of}
 use Rattle.flow_planner_net.proofs.Sums.{sum_to-list}
 use Rattle.flow_planner_repair.specs.Repairs.{most_looks}
-use Rattle.flow_planner_rows.specs.RowLists.{rows_of}
-use Rattle.flow_planner_accepted.specs.Accepted.{capacities_of, unplaced_cost_of, network_of, IsWritten, IsRepaired, IsAccepted}
-use Rattle.flow_planner_accepted.proofs.Lawful.{options-of}
-use Rattle.flow_planner_accepted.proofs.Accepting.{plans_are_accepted}
+use Rattle.flow_planner_net.specs.RowLists.{rows_of}
+use Rattle.flow_planner_law.specs.Accepted.{capacities_of, unplaced_cost_of, network_of, IsWritten, IsRepaired, IsAccepted}
+use Rattle.flow_planner_law.proofs.Lawful.{options-of}
+use Rattle.flow_planner_law.proofs.Accepting.{plans_are_accepted}
 use Rattle.flow_planner.specs.Plannings.{priced_servers, planned_of, IsPlanned}
 use Rattle.flow_planner.proofs.ServerLists.{servers-priced, price-priced}
 

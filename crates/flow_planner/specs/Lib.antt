@@ -1,1 +1,3 @@
+pub mod Blanks
+pub mod Fillings
 pub mod Plannings

@@ -2,12 +2,16 @@
 //! the least cost.
 //!
 //! Promised: `plan` answers for every sheet, unless memory is short, and a checker accepts each plan that it gives. It pushes
-//! pins no more often than there are pins, and the looks that it takes for that are bounded. Start at `planner`.
+//! pins no more often than there are pins, and the looks that it takes for that are bounded. Start at `plan`.
 #![tactic(auto)]
 
+mod homes;
+mod placing;
 mod planned;
 mod planner;
+mod rows;
 mod sheet_parts;
+mod solving;
 mod written;
 
 pub use planned::Planned;

@@ -1,13 +1,13 @@
 ghost use Rattle.std.specs.Prelude.{◌≡◌, ◌+◌, ◌*◌, ◌≤◌, length, IfOk, sum_by};
-ghost use Rattle.flow_planner_accepted.specs.Accepted.{IsAccepted, network_of};
+ghost use Rattle.flow_planner_law.specs.Accepted.{IsAccepted, network_of};
 
 use crate::Planned;
 use crate::sheet_parts::{capacities_of, unplaced_cost};
+use crate::solving::solve;
 use crate::written::written;
 use dual_cert_plan::Sheet;
 use flow_planner_net::Network;
 use flow_planner_repair::{Arcs, Label};
-use flow_planner_solve::solve;
 use std::alloc::{AllocError, Global};
 
 /// A best plan for the sheet, with prices that show that it is best. The only failure is want of memory.

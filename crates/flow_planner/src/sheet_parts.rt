@@ -1,6 +1,6 @@
 ghost use Rattle.std.specs.Prelude.{◌≡◌, ◌+◌, ◌^◌, ◌<◌, length, IfOk};
 ghost use Rattle.flow_planner_net.specs.States.{at};
-ghost use Rattle.flow_planner_accepted.specs.Accepted.{capacities_of, unplaced_cost_of};
+ghost use Rattle.flow_planner_law.specs.Accepted.{capacities_of, unplaced_cost_of};
 ghost use Rattle.flow_planner.specs.Plannings.{priced_server, priced_servers};
 
 use dual_cert_plan::{PricedServer, Server};

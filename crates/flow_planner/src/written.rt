@@ -1,12 +1,12 @@
 ghost use Rattle.std.specs.Prelude.{◌≡◌, ℕ, ◌*◌, length, IfOk};
 ghost use Rattle.flow_planner_net.specs.Networks.{options, size};
 ghost use Rattle.flow_planner_net.specs.States.{used_of, at};
-ghost use Rattle.flow_planner_accepted.specs.Accepted.{IsRepaired, IsAccepted, network_of};
+ghost use Rattle.flow_planner_law.specs.Accepted.{IsRepaired, IsAccepted, network_of};
 
+use crate::rows::write_rows;
 use crate::sheet_parts::priced_servers;
 use dual_cert_plan::{Plan, Sheet};
 use flow_planner_net::Network;
-use flow_planner_write_rows::write_rows;
 use std::alloc::{AllocError, Global};
 
 /// The plan for the sheet that says where the pins of a repaired state stand. Memory for its rows and servers.

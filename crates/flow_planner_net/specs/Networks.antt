@@ -1,9 +1,11 @@
 -- The transportation problem of a sheet as a network: pins of a group may go to options, where option 0 is no server and
 -- option s + 1 the server s. Every option costs each group something and has room for so many pins.
 use Rattle.std.specs.Prelude.{ℕ, zero, suc, ◌+◌, ◌<◌, ◌≤◌, Bool, Option, Some, None, List, length, slice_index, slice_index_or, sum_by, All}
+use Rattle.lb_types.specs.declared.limits.TheConstants.{MAX_COST, MAX_PINS}
 use Rattle.lb_types_pins.specs.declared.kind.Group.{Group}
 use Rattle.pin_set.specs.Costs.{option_cost}
 use Rattle.pin_set.specs.Assignments.{may_go}
+use Rattle.flow_planner_net.specs.declared.network.TheConstants.{MOST_OPTIONS, MOST_UNPLACED_COST}
 
 -- the cost of a pin without a server, the groups, and how many pins each option has room for
 pub record NetworkParts : Type 0 where
@@ -14,12 +16,12 @@ pub record NetworkParts : Type 0 where
 -- what every network keeps: no server has room for all pins and more, and the numbers are those of a sheet
 pub record IsNetwork (network : NetworkParts) : Type 0 where
   pub some : 0 < length network.capacities
-  pub few_options : length network.capacities ≤ 129
-  pub few_groups : length network.groups ≤ 16777216
-  pub few_pins : sum_by (λ g. g.count) network.groups ≤ 16777216
-  pub cheap : All (λ g. g.kind.cost ≤ 1000) network.groups
-  pub low : network.unplaced_cost ≤ 16777216001
-  pub endless : 16777216 < slice_index network.capacities 0
+  pub few_options : length network.capacities ≤ MOST_OPTIONS
+  pub few_groups : length network.groups ≤ MAX_PINS
+  pub few_pins : sum_by (λ g. g.count) network.groups ≤ MAX_PINS
+  pub cheap : All (λ g. g.kind.cost ≤ MAX_COST) network.groups
+  pub low : network.unplaced_cost ≤ MOST_UNPLACED_COST
+  pub endless : MAX_PINS < slice_index network.capacities 0
 
 -- how many options there are, and how many groups
 abbrev pub options : NetworkParts → ℕ
@@ -58,4 +60,4 @@ capacity network option = slice_index network.capacities option
 
 -- no price goes beyond this: no pin's cost is more
 abbrev pub limit : NetworkParts → ℕ
-limit network = network.unplaced_cost + 1000
+limit network = network.unplaced_cost + MAX_COST

@@ -3,9 +3,15 @@ ghost use Rattle.flow_planner_net.specs.Networks.{NetworkParts, IsNetwork, optio
 ghost use Rattle.pin_set.specs.Costs.{option_cost};
 ghost use Rattle.pin_set.specs.Assignments.{may_go};
 
-use lb_types::{Place, ServerId};
+use lb_types::{MAX_COST, MAX_PINS, MAX_SERVERS, Place, ServerId};
 use lb_types_pins::{Group, PinKind};
 use std::marker::Model;
+
+/// How many options there are at most: each of the servers, and none.
+pub const MOST_OPTIONS: usize = MAX_SERVERS + 1;
+
+/// The most that leaving a pin without a server may cost: one more than as many moves as may be, each at its dearest.
+pub const MOST_UNPLACED_COST: u64 = MAX_PINS * MAX_COST + 1;
 
 /// The groups of a sheet, and the options of their pins: option 0 is to have no server, and option `s + 1` is the server `s`.
 #[derive(Drop)]
@@ -96,7 +102,7 @@ impl<'a> Network<'a> {
         ensures exact { result ≡ limit self.now }
         ensures lawful { IsNetwork self.now }
     {
-        self.unplaced_cost + 1000
+        self.unplaced_cost + MAX_COST
     }
 
     /// How many pins the option has room for.
@@ -110,7 +116,7 @@ impl<'a> Network<'a> {
 }
 
 fn place_of(option: usize) -> Place
-    requires { option < 129 }
+    requires { option < MOST_OPTIONS }
     ensures { result ≡ place_of option }
 {
     if option == 0 {
@@ -120,15 +126,15 @@ fn place_of(option: usize) -> Place
 }
 
 fn may_go(kind: &PinKind, option: usize) -> bool
-    requires { option < 129 }
+    requires { option < MOST_OPTIONS }
     ensures { result ≡ may_go kind.now (place_of option) }
 {
     place_of(option).is_none_or(|server| kind.permitted.has(server))
 }
 
 fn option_cost(unplaced_cost: u64, kind: &PinKind, option: usize) -> u64
-    requires option { option < 129 }
-    requires low { unplaced_cost ≤ 16777216001 }
+    requires option { option < MOST_OPTIONS }
+    requires low { unplaced_cost ≤ MOST_UNPLACED_COST }
     ensures { result ≡ option_cost unplaced_cost kind.now (place_of option) }
 {
     let place = place_of(option);

@@ -4,11 +4,11 @@ use Rattle.std.proofs.lemmas.Bool.{cases_lt, lt-ltb, le-ltb}
 use Rattle.flow_planner_net.specs.Networks.{NetworkParts, IsNetwork, options, size, cost, limit}
 use Rattle.flow_planner_net.specs.States.{IsCheapest, IsPriced, IsState}
 use Rattle.flow_planner_net.proofs.Numbers.{may-none, cost-le, capacity-first}
+use Rattle.flow_planner_net.proofs.Loads.{full-is, load-le}
 use Rattle.flow_planner_repair.specs.declared.label.Label.{Label}
 use Rattle.flow_planner_repair.specs.Searches.{dist, source, via, rank, IsFound}
 use Rattle.flow_planner_repair.specs.Pushes.{raised, IsTrail, IsTight}
-use Rattle.flow_planner_repair.proofs.SearchSteps.{full-is}
-use Rattle.flow_planner_repair.proofs.StateSteps.{first_open, load-le}
+use Rattle.flow_planner_repair.proofs.StateSteps.{first_open}
 
 pub raised-near : (top reach d p : ℕ) → d < reach → raised top reach d p ≡ min top (p + (reach - d))
 raised-near top reach d p near = rw (lt-ltb d reach near) refl

@@ -9,7 +9,7 @@ use Rattle.flow_planner_repair.specs.declared.label.Label.{Label}
 use Rattle.flow_planner_repair.specs.Pushes.{IsPushed}
 use Rattle.flow_planner_repair.specs.Repairs.{excess}
 use Rattle.flow_planner_repair.proofs.PushSteps.{pins_at-here, pins_at-away}
-use Rattle.flow_planner_repair.proofs.StateSteps.{loads-le}
+use Rattle.flow_planner_net.proofs.Loads.{loads-le}
 
 module _ (network : NetworkParts) (old new : ℕ → ℕ → ℕ) (price raised load loaded : ℕ → ℕ) (labels : List Label) (start found q : ℕ)
     (start_in : start < options network) (found_in : found < options network) (apart : start ≢ found)

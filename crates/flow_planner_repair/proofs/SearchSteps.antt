@@ -2,16 +2,13 @@
 use Rattle.std.proofs.Common.{◌≡◌, Some, None, Option, ℕ, ◌+◌, ◌-◌, ◌<◌, ◌≤◌, ◌≢◌, min, List, refl, sym, ap, ◌∙◌, subst, ◌⊎◌, inl, inr, arith}
 use Rattle.std.proofs.lemmas.Bool.{cases_eq, cases_lt}
 use Rattle.pin_set.specs.Costs.{sum_to}
-use Rattle.flow_planner_net.specs.Networks.{NetworkParts, options, size, cost, capacity}
+use Rattle.flow_planner_net.specs.Networks.{NetworkParts, options, size, capacity}
 use Rattle.flow_planner_net.specs.States.{full, IsCheapest}
 use Rattle.flow_planner_net.proofs.Sums.{sum_to-below_ones, sum_to-changed_below}
+use Rattle.flow_planner_net.proofs.Loads.{full-is}
 use Rattle.flow_planner_repair.specs.declared.label.Label.{Label}
 use Rattle.flow_planner_repair.specs.LeastArcs.{IsLeast, IsLeastOf}
 use Rattle.flow_planner_repair.specs.Searches.{dist, source, via, rank, far, mark, IsRelaxed, IsArc, IsReached, IsSearch, IsNearest, IsFollowed, IsRanked}
-
-pub full-is : (network : NetworkParts) (price : ℕ → ℕ) (g o : ℕ) → full network price g o ≡ cost network g o + price o
-unfolding full
-full-is network price g o = refl
 
 pub record IsSettling (network : NetworkParts) (used : ℕ → ℕ → ℕ) (price load : ℕ → ℕ) (old ranked new : List Label) (start settled here : ℕ) (arc : ℕ → Option ℕ) : Type 0 where
   pub cheapest : IsCheapest network used price

@@ -1,28 +1,18 @@
 -- What a state says of loads, and what that says of a search.
 use Rattle.std.proofs.Common.{◌≡◌, ℕ, ◌+◌, ◌<◌, ◌≤◌, ◌≢◌, Option, Some, List, subst, inl, inr, arith}
 use Rattle.std.proofs.lemmas.Bool.{cases_lt}
-use Rattle.pin_set.specs.Costs.{sum_to}
-use Rattle.cert_check_law.proofs.Sums.{sum_to-same, sum_to-zero, le-sum_to}
-use Rattle.flow_planner_net.specs.Networks.{NetworkParts, IsNetwork, options, size, count, capacity, limit}
+use Rattle.cert_check_law.proofs.Sums.{sum_to-zero}
+use Rattle.flow_planner_net.specs.Networks.{NetworkParts, IsNetwork, options, size, capacity, limit}
 use Rattle.flow_planner_net.specs.States.{full, IsState}
-use Rattle.flow_planner_net.proofs.Sums.{sum_to-some, sum_to-exchange}
-use Rattle.flow_planner_net.proofs.Numbers.{may-none, cost-le, pins-le, capacity-first}
+use Rattle.flow_planner_net.proofs.Sums.{sum_to-some}
+use Rattle.flow_planner_net.proofs.Numbers.{may-none, cost-le, capacity-first}
+use Rattle.flow_planner_net.proofs.Loads.{full-is, load-le}
 use Rattle.flow_planner_repair.specs.declared.label.Label.{Label}
 use Rattle.flow_planner_repair.specs.LeastArcs.{IsLeast, AreLeast, least_of}
 use Rattle.flow_planner_repair.specs.Searches.{dist, rank, far, mark, IsSearch, IsNearest, IsUphill, IsRanked, IsFollowed}
-use Rattle.flow_planner_repair.proofs.SearchSteps.{full-is, IsSettling, settled_more}
+use Rattle.flow_planner_repair.proofs.SearchSteps.{IsSettling, settled_more}
 
 module _ (network : NetworkParts) (lawful : IsNetwork network) (used : ℕ → ℕ → ℕ) (price load : ℕ → ℕ) (state : IsState network used price load) where
-  -- the loads together are all pins
-  pub loads-le : sum_to (options network) load ≤ 16777216
-  loads-le =
-      let by_option = sum_to-same (options network) load (λ o. sum_to (size network) (used o)) state.loads in
-      let by_group = sum_to-same (size network) (λ g. sum_to (options network) (λ o. used o g)) (count network) state.placed in
-      omega (arith, by_option, by_group, sum_to-exchange (options network) (size network) used, pins-le network lawful)
-
-  pub load-le : (o : ℕ) → o < options network → load o ≤ 16777216
-  load-le o within = omega (arith, loads-le, le-sum_to (options network) load o within)
-
   -- where pins stand, some group's do
   pub has_group : (o : ℕ) → o < options network → 0 < load o → (g : ℕ) × (g < size network) × (0 < used o g)
   has_group o within some = sum_to-some (size network) (used o) (omega (arith, state.loads o within))
@@ -35,7 +25,7 @@ module _ (network : NetworkParts) (lawful : IsNetwork network) (used : ℕ → �
     pub first_open : options network ≤ rank labels 0
     first_open =
         elim (cases_lt (rank labels 0) (options network)) [
-          | inl now ↦ absurd (omega (arith, search.busy 0 lawful.some now, load-le 0 lawful.some, capacity-first network, lawful.endless))
+          | inl now ↦ absurd (omega (arith, search.busy 0 lawful.some now, load-le network lawful used price load state 0 lawful.some, capacity-first network, lawful.endless))
           | inr after ↦ after
         ]
 

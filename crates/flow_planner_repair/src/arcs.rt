@@ -3,12 +3,9 @@ ghost use Rattle.flow_planner_net.specs.Networks.{options, size, may};
 ghost use Rattle.flow_planner_net.specs.States.{used_of};
 ghost use Rattle.flow_planner_repair.specs.LeastArcs.{ArcsParts, no_arcs, AreArcs, AreKept, AreLeast, AreFound, AreOfGroups, IsLeast, KnownAreSame, OthersAreSame, IsMarked, IsDropped, IsNoLess, AreOptions, StaleAreListed, least_of, is_fresh};
 
-use flow_planner_net::Network;
+use flow_planner_net::{MOST_OPTIONS, Network};
 use std::alloc::{AllocError, Global};
 use std::marker::Model;
-
-/// The most options that there are: each of 128 servers, and none.
-const MOST_OPTIONS: usize = 129;
 
 /// How many groups are passed over together where none of them has pins at an option.
 const BLOCK: usize = 64;
@@ -40,7 +37,7 @@ impl Model for Arcs {
 impl Arcs {
     /// No arcs between so many options, and no move. Memory for 17 bytes for each two options.
     pub fn new(alloc: Global, options: usize) -> Result<Self, AllocError>
-        requires { options ≤ 129 }
+        requires { options ≤ MOST_OPTIONS }
         ensures { IfOk result (λ arcs. arcs ≡ no_arcs options) }
     {
         Ok(Arcs {
@@ -61,7 +58,7 @@ impl Arcs {
 
     /// Remembers that pins were moved to the option.
     pub(crate) fn note_move(&mut self, option: usize)
-        requires { option < 129 }
+        requires { option < MOST_OPTIONS }
         ensures { self.new ≡ self.old }
     {
         self.moves = self.moves.wrapping_add(1);
@@ -70,8 +67,8 @@ impl Arcs {
 
     /// Whether pins were moved to the option later than to the other one.
     pub(crate) fn is_later(&self, option: usize, other: usize) -> bool
-        requires option { option < 129 }
-        requires other { other < 129 }
+        requires option { option < MOST_OPTIONS }
+        requires other { other < MOST_OPTIONS }
     {
         self.latest[other] < self.latest[option]
     }

@@ -2,7 +2,7 @@
 //! the ways that cost least.
 //!
 //! Promised: `repair` ends with no server over its capacity, keeps what `IsState` of `flow_planner_net` says, makes at most
-//! one push a pin, and at most as many looks as it says. Private to `flow_planner`.
+//! one push a pin, and at most as many looks as it says. Start at `repair`. Private to `flow_planner`.
 #![tactic(auto)]
 
 mod arcs;

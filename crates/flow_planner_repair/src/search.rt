@@ -1,4 +1,5 @@
 ghost use Rattle.std.specs.Prelude.{◌≡◌, ◌≢◌, ◌+◌, ◌*◌, ◌^◌, ◌<◌, ◌≤◌, ℕ, true, false, Some, length, slice_index_or};
+ghost use Rattle.flow_planner_net.specs.declared.network.TheConstants.{MOST_OPTIONS};
 ghost use Rattle.flow_planner_net.specs.Networks.{options, size, cost, may, capacity, limit};
 ghost use Rattle.flow_planner_net.specs.States.{full, used_of, at, IsState};
 ghost use Rattle.flow_planner_repair.specs.LeastArcs.{ArcsParts, AreArcs, AreKept, AreLeast, least_of};
@@ -109,7 +110,7 @@ fn is_nearer(
 /// moved last. Any order would be right. This one settles the fewest options, since most moves go nearly the same way as the one
 /// before.
 fn is_preferred(network: &Network, loads: &[u32], arcs: &Arcs, option: usize, best: usize) -> bool
-    requires few { options network.now ≤ 129 }
+    requires few { options network.now ≤ MOST_OPTIONS }
     requires option { option < options network.now }
     requires best { best < options network.now }
     requires loads { length loads.now ≡ options network.now }

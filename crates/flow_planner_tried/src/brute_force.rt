@@ -99,9 +99,8 @@ fn assert_best(
     ) else {
         return Err(Fail::new("a plan is accepted, and some assignment is best"));
     };
-    assert_eq!(rt; score.pins, small.size(), "{pins:?}");
-    assert_eq!(rt; score.unplaced, best.unplaced, "{pins:?}");
-    assert_eq!(rt; score.cost, best.cost, "{pins:?}");
+    let found = (score.pins, score.unplaced, score.cost);
+    assert_eq!(rt; found, (small.size(), best.unplaced, best.cost), "{pins:?}");
     assert!(rt; planned.pushes() <= small.size(), "{pins:?}");
     Ok(())
 }

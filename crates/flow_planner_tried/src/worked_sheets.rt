@@ -134,42 +134,34 @@ fn planned(alloc: Global, text: &str) -> Result<Planned, Fail> {
 
 /// The text of the plan for the sheet of this text.
 fn plan_text(alloc: Global, text: &str) -> Result<Vec<u8>, Fail> {
-    let mut out = Counted::new(Vec::new(alloc));
-    write_plan(planned(alloc, text)?.plan(), &mut out)?;
-    Ok(out.into_inner())
+    written(alloc, &planned(alloc, text)?)
 }
 
-#[test]
-fn plans_have_the_scores_that_were_found_by_hand(rt: HostRuntime) -> Result<(), Fail> {
-    for (text, pins, unplaced, moved, cost) in SHEETS {
-        let sheet = read_sheet(rt.alloc(), text.as_bytes())?;
-        let planned = plan(rt.alloc(), &sheet)?;
-        let score = Score {
-            pins,
-            unplaced,
-            moved,
-            cost,
-        };
-        assert_eq!(rt; check(&sheet, planned.plan()), Ok(score), "{text}");
-        assert_eq!(rt; planned.plan().version(), sheet.version(), "{text}");
-    }
-    Ok(())
+fn written(alloc: Global, planned: &Planned) -> Result<Vec<u8>, Fail> {
+    let mut out = Counted::new(Vec::new(alloc));
+    write_plan(planned.plan(), &mut out)?;
+    Ok(out.into_inner())
 }
 
 // What goes out as text is read again as a plan that is accepted.
 #[test]
-fn plans_are_accepted_once_written_and_read(rt: HostRuntime) -> Result<(), Fail> {
+fn plans_have_the_scores_that_were_found_by_hand_also_once_written_and_read(
+    rt: HostRuntime,
+) -> Result<(), Fail> {
     for (text, pins, unplaced, moved, cost) in SHEETS {
-        let written = plan_text(rt.alloc(), text)?;
-        let again = read_plan(rt.alloc(), &written)?;
-        let sheet = again.sheet(rt.alloc())?;
+        let sheet = read_sheet(rt.alloc(), text.as_bytes())?;
+        let planned = plan(rt.alloc(), &sheet)?;
+        let again = read_plan(rt.alloc(), &written(rt.alloc(), &planned)?)?;
+        let own_sheet = again.sheet(rt.alloc())?;
         let score = Score {
             pins,
             unplaced,
             moved,
             cost,
         };
-        assert_eq!(rt; check(&sheet, &again), Ok(score), "{text}");
+        let scores = (check(&sheet, planned.plan()), check(&own_sheet, &again));
+        assert_eq!(rt; scores, (Ok(score), Ok(score)), "{text}");
+        assert_eq!(rt; planned.plan().version(), sheet.version(), "{text}");
     }
     Ok(())
 }

@@ -3,9 +3,9 @@ use Rattle.std.proofs.Common.{◌≡◌, ℕ, List, [], ◌++◌, append_assoc, 
 use Rattle.std.specs.Io.KnownBytes.{prepend_known, IsAtEnd}
 use Rattle.http_relay_wire.specs.Wires.{Reading}
 use Rattle.http_relay_forward.specs.declared.framing.BodyKind.{BodyKind}
-use Rattle.http_relay_body_length.specs.declared.fault.BodyFault.{BodyFault}
-use Rattle.http_relay_body_length.specs.declared.fault.BodyFault.TheVariants.{Truncated, Client, Server, BadChunk}
-use Rattle.http_relay_body_length.specs.Moves.{Begins, Answers, Moved}
+use Rattle.http_relay_body.specs.declared.fault.BodyFault.{BodyFault}
+use Rattle.http_relay_body.specs.declared.fault.BodyFault.TheVariants.{Truncated, Client, Server, BadChunk}
+use Rattle.http_relay_body.specs.Moves.{Begins, Answers, Moved}
 use Rattle.http_relay_body.specs.Bodies.{IsBody, BeginsWithBody, JudgesInput}
 
 begins_so : (kind : BodyKind) (input : List ℕ) → BeginsWithBody kind input → Begins {A = Unit {0}} (λ _ text. IsBody kind text) input

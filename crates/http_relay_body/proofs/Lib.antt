@@ -1,1 +1,5 @@
+pub mod Handed
 pub mod Inputs
+pub mod Lines
+pub mod Moves
+pub mod Parts

@@ -1,10 +1,10 @@
 -- The bodies of requests: RFC 9112, section 6.3 (none, so many bytes) and section 7.1 (chunks).
 use Rattle.std.specs.Prelude.{◌≡◌, ℕ, List, [], ◌++◌, length, Result, Ok, Err}
-use Rattle.http_relay_body_chunks.specs.Chunks.{IsChunked}
+use Rattle.http_relay_body.specs.Chunks.{IsChunked}
 use Rattle.http_relay_forward.specs.declared.framing.BodyKind.{BodyKind}
 use Rattle.http_relay_forward.specs.declared.framing.BodyKind.TheVariants.{Empty, Length, Chunked}
-use Rattle.http_relay_body_length.specs.declared.fault.BodyFault.{BodyFault}
-use Rattle.http_relay_body_length.specs.declared.fault.BodyFault.TheVariants.{Truncated, Client, Server, BadChunk}
+use Rattle.http_relay_body.specs.declared.fault.BodyFault.{BodyFault}
+use Rattle.http_relay_body.specs.declared.fault.BodyFault.TheVariants.{Truncated, Client, Server, BadChunk}
 
 -- the text is a body of this kind
 abbrev pub IsBody : BodyKind → List ℕ → Type 0

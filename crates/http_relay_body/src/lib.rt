@@ -1,15 +1,23 @@
-//! The body of a relayed request, from the client to the server.
+//! The body of a relayed request, from the client to the server, and the response that comes back.
 //!
 //! Promised: where `send_body` answers `Ok`, it wrote the bytes that it took, and they are a body of the head's kind; nothing is
 //! read past its end. Else it wrote a beginning of them, and the fault has its cause in that call: the client ended or failed
-//! where no body stood yet, no more bytes could make one, or the server failed. It takes one buffer of fixed size and no memory.
-//! Start at `send_body`, whose words are in `specs/Bodies.antt`.
+//! where no body stood yet, no more bytes could make one, or the server failed. `copy_back` copies what the server sends byte for
+//! byte until it ends; where a read failed, all that was read before it went out, and where a write failed a beginning of it. Each
+//! takes one buffer of fixed size and no memory.
+//!
+//! Start at `send_body`, whose words are in `specs/Bodies.antt`. It rests on `length`, which passes on so many bytes by the words
+//! of `specs/Moves.antt`, and on `chunks`, whose bodies are in `specs/Chunks.antt`. `copy_back` is in `response`, with its words in
+//! `specs/Copies.antt`.
 #![tactic(auto)]
 
+mod at_hand;
+mod chunks;
+mod fault;
+mod length;
+mod response;
 mod sending;
 
-pub use http_relay_body_length::BodyFault;
+pub use fault::BodyFault;
+pub use response::{CopyFault, copy_back};
 pub use sending::send_body;
-
-#[cfg(test)]
-mod tests;

@@ -1,9 +1,11 @@
 ghost use Rattle.std.specs.Prelude.{◌≡◌, ℕ, List, ◌++◌, length, IfSome};
-ghost use Rattle.http_relay_body_length.specs.Moves.{Moved, client_faults, server_faults};
+ghost use Rattle.http_relay_body.specs.Moves.{Moved, client_faults, server_faults};
 ghost use Rattle.http_relay_body.specs.Bodies.{IsBody, JudgesInput};
 
-use http_relay_body_chunks::pass_chunks;
-use http_relay_body_length::{AtHand, BodyFault, pass};
+use crate::at_hand::AtHand;
+use crate::chunks::pass_chunks;
+use crate::fault::BodyFault;
+use crate::length::pass;
 use http_relay_forward::BodyKind;
 use http_relay_wire::Wire;
 
@@ -19,7 +21,8 @@ pub fn send_body<C: Wire, S: Wire>(
     client: &mut C,
     server: &mut S,
 ) -> Result<(), BodyFault>
-    ensures sent { (left : List ℕ) × Moved (λ _ text. IsBody kind text) behind.now left (C.reading client.old) (C.reading client.new) (S.written server.old) (S.written server.new) result }
+    ensures sent { (left : List ℕ) × Moved (λ _ text. IsBody kind text) behind.now left (C.reading client.old) (C.reading client.new)
+        (S.written server.old) (S.written server.new) result }
     ensures client { C.faults client.new ≡ client_faults result (C.faults client.old) }
     ensures server { S.faults server.new ≡ server_faults result (S.faults server.old) }
     ensures client_written { C.written client.new ≡ C.written client.old }
@@ -41,7 +44,8 @@ fn send_through<C: Wire, S: Wire>(
     room: &mut [u8],
 ) -> Result<(), BodyFault>
     requires { length room.old ≡ ROOM }
-    ensures moved { Moved (λ _ text. IsBody kind text) at_hand.old at_hand.new (C.reading client.old) (C.reading client.new) (S.written server.old) (S.written server.new) result }
+    ensures moved { Moved (λ _ text. IsBody kind text) at_hand.old at_hand.new (C.reading client.old) (C.reading client.new)
+        (S.written server.old) (S.written server.new) result }
     ensures client { C.faults client.new ≡ client_faults result (C.faults client.old) }
     ensures server { S.faults server.new ≡ server_faults result (S.faults server.old) }
     ensures client_written { C.written client.new ≡ C.written client.old }

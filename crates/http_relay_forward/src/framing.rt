@@ -57,7 +57,8 @@ pub fn expects_continue(head: &Head, kind: BodyKind) -> bool
 }
 
 fn has_expectation(fields: &[Field]) -> bool
-    ensures { result ≡ list_any (λ field. is_named (codes "Expect") field && is_equal true (trimmed field.value) (codes "100-continue")) fields.now }
+    ensures { result ≡ list_any (λ field. is_named (codes "Expect") field
+        && is_equal true (trimmed field.value) (codes "100-continue")) fields.now }
 {
     fields.iter().any(|field| {
         field.is_named(EXPECT) && trimmed(field.value()).eq_ignore_ascii_case(b"100-continue")

@@ -14,6 +14,3 @@ mod rewriting;
 pub use answer::{OwnAnswer, continue_text};
 pub use framing::{BodyKind, HeadRefusal, body_kind, expects_continue};
 pub use rewriting::rewrite;
-
-#[cfg(test)]
-mod tests;

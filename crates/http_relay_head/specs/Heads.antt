@@ -16,6 +16,7 @@ use Rattle.http_relay_forward.specs.Framing.{framing}
 use Rattle.http_relay_forward.specs.declared.framing.BodyKind.{BodyKind}
 use Rattle.http_relay_forward.specs.declared.framing.HeadRefusal.{HeadRefusal}
 use Rattle.http_relay_forward.specs.declared.framing.HeadRefusal.TheVariants as Refused
+use Rattle.http_relay_head.specs.declared.scanning.TheConstants.{HEAD_ROOM, MOST_FIELDS}
 use Rattle.http_relay_head.specs.ReadHeadView.{ReadHeadView}
 use Rattle.http_relay_head.specs.declared.fault.HeadFault.{HeadFault}
 use Rattle.http_relay_head.specs.declared.fault.HeadFault.TheVariants.{HeadTooLarge, BadHead, Truncated, Wire, BothLengths, Memory}
@@ -41,8 +42,8 @@ head_of head source = record {
 -- the text is this head and then rest, the head is within the limits, and the rules say that of it
 pub record IsHead (source : Ipv4Addr) (said : Result BodyKind HeadRefusal) (text : List ℕ) (head : RequestHead) (rest : List ℕ) : Type 0 where
   pub reads : ReadsRequest text head rest
-  pub size : length (print_request head) ≤ 16384
-  pub fields : length head.fields ≤ 100
+  pub size : length (print_request head) ≤ HEAD_ROOM
+  pub fields : length head.fields ≤ MOST_FIELDS
   pub framed : framing (head_of head source) ≡ said
 
 -- the text begins with a head within the limits of which the rules say that
@@ -59,12 +60,12 @@ NeverHasGoodHead source text = (more : List ℕ) → ¬ HasGoodHead source (text
 
 -- the text has all bytes that a head may have, or more fields than one may have
 abbrev pub IsOverLimit : List ℕ → Type 0
-IsOverLimit text = (16384 ≤ length text) ⊎ RequestExceeds 100 text
+IsOverLimit text = (HEAD_ROOM ≤ length text) ⊎ RequestExceeds MOST_FIELDS text
 
 -- the text is less than a head: none stands at its front, good or refused, more bytes may make one (or its target is still being
 -- read), and it has fewer bytes than a head may have
 abbrev pub IsUnfinished : List ℕ → Type 0
-IsUnfinished text = HasNoRequest text × MayBecomeRequest text × (length text < 16384)
+IsUnfinished text = HasNoRequest text × MayBecomeRequest text × (length text < HEAD_ROOM)
 
 -- the text is less than a head, and it is all that came: behind it no byte is left, and a read has told so
 abbrev pub IsCutShort : List ℕ → Reading → Type 0

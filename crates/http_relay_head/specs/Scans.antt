@@ -11,6 +11,7 @@ use Rattle.lb_acl.specs.HeadView.{HeadView}
 use Rattle.http_relay_wire.specs.Wires.{Reading}
 use Rattle.http_relay_forward.specs.Framing.{framing}
 use Rattle.http_relay_forward.specs.declared.framing.HeadRefusal.TheVariants as Refused
+use Rattle.http_relay_head.specs.declared.scanning.TheConstants.{HEAD_ROOM, MOST_FIELDS}
 use Rattle.http_relay_head.specs.ReadHeadView.{ReadHeadView}
 use Rattle.http_relay_head.specs.Heads.{version_of, IsOverLimit, IsUnfinished, IsCutShort}
 use Rattle.http_relay_head.specs.declared.fault.HeadFault.{HeadFault}
@@ -22,7 +23,7 @@ use Rattle.http_relay_head.specs.declared.filling.Found.{Found as FoundHead}
 -- whatever follows, a head at the front is beyond the limits
 abbrev pub NeverFits : List ℕ → Type 0
 NeverFits text = (more : List ℕ) (head : RequestHead) (rest : List ℕ) → ReadsRequest (text ++ more) head rest
-    → length (print_request head) ≤ 16384 → length head.fields ≤ 100 → ⊥
+    → length (print_request head) ≤ HEAD_ROOM → length head.fields ≤ MOST_FIELDS → ⊥
 
 -- what a scan says of a text
 abbrev pub Scans : List ℕ → List HeaderSpan → Scanned → Type 0

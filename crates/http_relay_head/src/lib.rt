@@ -19,6 +19,3 @@ pub use fault::HeadFault;
 pub use parts::ReadHead;
 pub use reading::read_head;
 pub use scanning::HEAD_ROOM;
-
-#[cfg(test)]
-mod tests;

@@ -10,7 +10,7 @@ const SENT_HEAD: &[u8] =
 
 // A body is the front, so many times the middle, and the end; with one more middle it is beyond a limit. A size line may have 256
 // bytes, its CR LF among them, and 16 digits; a trailer 8192 bytes, its empty line among them, and 100 fields.
-const BODIES: [(&[u8], &[u8], usize, &[u8]); 7] = [
+const BODIES: [(&[u8], &[u8], usize, &[u8]); 8] = [
     (b"0;", b"x", 252, b"\r\n\r\n"),
     (b"2;", b"x", 252, b"\r\nhi\r\n0\r\n\r\n"),
     (b"2\t", b" ", 252, b"\r\nhi\r\n0\r\n\r\n"),
@@ -18,48 +18,36 @@ const BODIES: [(&[u8], &[u8], usize, &[u8]); 7] = [
     (b"0\r\nX:", b"x", 8186, b"\r\n\r\n"),
     (b"2\r\nhi\r\n0\r\n", b"Xxxxx: 1\r\n", 100, b"\r\n"),
     (b"0\r\n", b"X:\n", 100, b"\n"),
+    (b"0\r\nX: ", b"1\r\nX: ", 99, b"\r\n\r\n"),
 ];
 
+// At a limit the body is passed on, and beyond it a beginning of it.
 #[test]
-fn bodies_at_their_limits_are_passed_on(rt: HostRuntime) -> Result<(), Fail> {
-    for (front, middle, times, end) in BODIES {
-        let body = joined(rt.alloc(), front, middle, times, end)?;
-        let input = joined(rt.alloc(), HEAD, &body, 1, b"GET /")?;
-        let sent = joined(rt.alloc(), SENT_HEAD, &body, 1, b"")?;
-        for pieces in [[].as_slice(), &[1]] {
-            let script = Script {
-                pieces,
-                ..Script::SMOOTH
-            };
-            let mut client = ScriptedWire::new(rt.alloc(), &input, script);
-            let mut server = ScriptedWire::new(rt.alloc(), b"", Script::SMOOTH);
-            let relayed = relay(rt.alloc(), &mut client, &mut server, false);
-            assert_eq!(rt; relayed, Ok(()), "{front:?}");
-            assert_eq!(rt; server.written(), sent.as_slice(), "{front:?}");
-        }
-    }
-    Ok(())
-}
-
-#[test]
-fn bodies_beyond_a_limit_are_refused(rt: HostRuntime) -> Result<(), Fail> {
-    for (front, middle, times, end) in BODIES {
-        let times = times.saturating_add(1);
-        let body = joined(rt.alloc(), front, middle, times, end)?;
-        let input = joined(rt.alloc(), HEAD, &body, 1, b"GET /")?;
-        let whole = joined(rt.alloc(), SENT_HEAD, &body, 1, b"")?;
-        for pieces in [[].as_slice(), &[1]] {
-            let script = Script {
-                pieces,
-                ..Script::SMOOTH
-            };
-            let mut client = ScriptedWire::new(rt.alloc(), &input, script);
-            let mut server = ScriptedWire::new(rt.alloc(), b"", Script::SMOOTH);
-            let relayed = relay(rt.alloc(), &mut client, &mut server, false);
-            let refused = Err(RelayFault::Body(BodyFault::BadChunk));
-            assert_eq!(rt; relayed, refused, "{front:?}");
-            assert!(rt; whole.starts_with(server.written()), "{front:?}");
-            assert!(rt; server.written().len() < whole.len(), "{front:?}");
+fn bodies_at_their_limits_and_beyond(rt: HostRuntime) -> Result<(), Fail> {
+    for (front, middle, most, end) in BODIES {
+        for beyond in [0, 1] {
+            let times = most.saturating_add(beyond);
+            let body = joined(rt.alloc(), front, middle, times, end)?;
+            let input = joined(rt.alloc(), HEAD, &body, 1, b"GET /")?;
+            let whole = joined(rt.alloc(), SENT_HEAD, &body, 1, b"")?;
+            for pieces in [[].as_slice(), &[1]] {
+                let script = Script {
+                    pieces,
+                    ..Script::SMOOTH
+                };
+                let mut client = ScriptedWire::new(rt.alloc(), &input, script);
+                let mut server = ScriptedWire::new(rt.alloc(), b"", Script::SMOOTH);
+                let relayed = relay(rt.alloc(), &mut client, &mut server, false);
+                let sent = server.written();
+                let is_right = if beyond == 0 {
+                    relayed == Ok(()) && sent == whole.as_slice()
+                } else {
+                    relayed == Err(RelayFault::Body(BodyFault::BadChunk))
+                        && whole.starts_with(sent)
+                        && sent.len() < whole.len()
+                };
+                assert!(rt; is_right, "{front:?}, {times} times {middle:?}");
+            }
         }
     }
     Ok(())

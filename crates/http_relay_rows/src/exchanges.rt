@@ -1,6 +1,5 @@
 use crate::relaying::{client_address, joined, relay};
-use http_relay_body::send_body;
-use http_relay_copy::copy_back;
+use http_relay_body::{copy_back, send_body};
 use http_relay_forward::{continue_text, expects_continue, rewrite};
 use http_relay_head::{HEAD_ROOM, read_head};
 use http_relay_wire::{Script, ScriptedWire, write_all};
@@ -53,9 +52,11 @@ fn a_client_that_waits_is_told_to_go_on(rt: HostRuntime) -> Result<(), Fail> {
     for (request, sent, answered) in cases {
         let mut client = ScriptedWire::new(rt.alloc(), request, Script::SMOOTH);
         let mut server = ScriptedWire::new(rt.alloc(), untold, Script::SMOOTH);
-        assert_eq!(rt; exchange(rt.alloc(), &mut client, &mut server)?, 21);
-        assert_eq!(rt; server.written(), sent, "{request:?}");
-        assert_eq!(rt; client.written(), answered, "{request:?}");
+        let copied = exchange(rt.alloc(), &mut client, &mut server)?;
+        assert!(rt;
+            copied == 21 && server.written() == sent && client.written() == answered,
+            "{request:?}"
+        );
     }
     Ok(())
 }
@@ -73,14 +74,11 @@ fn responses_of_any_size_follow_the_request(rt: HostRuntime) -> Result<(), Fail>
             let mut client = ScriptedWire::new(rt.alloc(), b"GET / HTTP/1.1\r\n\r\n", script);
             let mut server = ScriptedWire::new(rt.alloc(), &response, script);
             let relayed = relay(rt.alloc(), &mut client, &mut server, false);
-            assert_eq!(rt; relayed, Ok(()), "{size} bytes");
             let copied = copy_back(&mut server, &mut client);
-            assert_eq!(rt; copied, Ok(size as u64), "{size} bytes");
-            assert_eq!(rt; client.written(), response.as_slice(), "{size} bytes");
-            assert_eq!(rt;
-                server.written(),
-                b"GET / HTTP/1.1\r\nConnection: close\r\n\r\n".as_slice()
-            );
+            let is_sent = server.written()
+                == b"GET / HTTP/1.1\r\nConnection: close\r\n\r\n".as_slice();
+            let is_copied = copied == Ok(size as u64) && client.written() == response.as_slice();
+            assert!(rt; relayed == Ok(()) && is_sent && is_copied, "{size} bytes");
         }
     }
     Ok(())

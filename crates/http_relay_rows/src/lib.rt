@@ -11,6 +11,10 @@ mod cuts_and_faults;
 #[cfg(test)]
 mod exchanges;
 #[cfg(test)]
+mod forwarding;
+#[cfg(test)]
+mod heads;
+#[cfg(test)]
 mod probes;
 #[cfg(test)]
 mod relaying;

@@ -1,5 +1,5 @@
-use check_rule::{CheckRule, RequestLine};
 use check_workers_probe::probe;
+use check_workers_rule::{CheckRule, RequestLine};
 use http_relay_wire::{Script, ScriptedWire};
 use lb_acl::Version;
 use std::net::Ipv4Addr;
@@ -17,11 +17,9 @@ fn a_check_sends_its_request_and_judges_the_response(rt: HostRuntime) -> Result<
     ];
     for (response, is_well) in responses {
         let mut wire = ScriptedWire::new(rt.alloc(), response, Script::SMOOTH);
-        assert_eq!(rt; probe(&rule, &mut wire), is_well, "{response:?}");
-        assert_eq!(rt;
-            wire.written(),
-            b"GET /h HTTP/1.1\r\nHost: 127.0.0.1:8001\r\n\r\n".as_slice()
-        );
+        let is_told = probe(&rule, &mut wire) == is_well;
+        let sent = b"GET /h HTTP/1.1\r\nHost: 127.0.0.1:8001\r\n\r\n".as_slice();
+        assert!(rt; is_told && wire.written() == sent, "{response:?}");
     }
     Ok(())
 }

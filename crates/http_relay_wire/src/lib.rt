@@ -15,6 +15,3 @@ pub use fault::{FaultCounts, WireFault};
 pub use scripted::{Script, ScriptedWire};
 pub use socket::SocketWire;
 pub use wire::{Wire, write_all};
-
-#[cfg(test)]
-mod tests;

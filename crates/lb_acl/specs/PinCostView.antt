@@ -1,5 +1,6 @@
 -- A rule `pin-cost` as contracts see it.
 use Rattle.std.specs.Prelude.{ℕ, ◌≤◌}
+use Rattle.lb_types.specs.declared.limits.TheConstants.{MAX_COST}
 use Rattle.lb_acl.specs.CondView.{CondView}
 
 -- the cost, and when it counts
@@ -10,4 +11,4 @@ pub record PinCostView : Type 0 where
 -- a lawful cost
 pub record IsPinCost (cost : ℕ) : Type 0 where
   pub least : 1 ≤ cost
-  pub greatest : cost ≤ 1000
+  pub greatest : cost ≤ MAX_COST

@@ -22,6 +22,9 @@ pub enum KeySample {
     Cookie(Text),
 }
 
+/// The most bytes of a key that a table of type `string` may ask for.
+pub const MAX_KEY_LEN: u64 = 1024;
+
 /// The largest number of bytes of a key in a table of type `string`, 1 to 1024.
 #[derive(Clone, Copy, Debug, PartialEq, Eq)]
 pub struct KeyLen {
@@ -45,7 +48,7 @@ impl KeyLen {
     /// The limit of so many bytes, 1 to 1024.
     pub fn new(bytes: u16) -> Self
         requires least { 1 ≤ bytes }
-        requires greatest { bytes ≤ 1024 }
+        requires greatest { bytes ≤ MAX_KEY_LEN }
         ensures { result ≡ bytes }
     {
         KeyLen { bytes }
@@ -55,7 +58,7 @@ impl KeyLen {
     pub fn get(self) -> usize
         ensures exact { result ≡ self }
         ensures least { 1 ≤ result }
-        ensures greatest { result ≤ 1024 }
+        ensures greatest { result ≤ MAX_KEY_LEN }
     {
         usize::from(self.bytes)
     }

@@ -20,12 +20,9 @@ pub use acl::{Acl, AclLine, Sample, SourceTest, TextTest};
 pub use bytes::trimmed;
 pub use cond::{Cond, Conjunction, Polarity, Term};
 pub use head::{Field, Head, Version};
-pub use key::{KeyLen, KeySample, StickOn, TableType, pin_key};
+pub use key::{KeyLen, KeySample, MAX_KEY_LEN, StickOn, TableType, pin_key};
 pub use matching::Matching;
 pub use network::Network;
 pub use path::path_of;
 pub use rules::{PinCost, UseServer, designated, pin_cost};
 pub use text::Text;
-
-#[cfg(test)]
-mod tests;

@@ -1,4 +1,5 @@
 ghost use Rattle.std.specs.Prelude.{◌≡◌, ◌≤◌, IfOk};
+ghost use Rattle.lb_types.specs.declared.limits.TheConstants.{MAX_COST};
 ghost use Rattle.lb_acl.specs.Rules.{designated, pin_cost};
 
 use crate::{Cond, Head};
@@ -36,13 +37,10 @@ impl Model for PinCost {
 }
 
 impl PinCost {
-    /// The largest cost of a pin. The least one is 1.
-    pub const LIMIT: u16 = 1000;
-
     /// The rule that gives this cost, from 1 to 1000, under the condition.
     pub fn new(cost: u16, cond: Cond) -> Self
         requires least { 1 ≤ cost }
-        requires greatest { cost ≤ 1000 }
+        requires greatest { cost ≤ MAX_COST }
         ensures { result ≡ record { cost = cost; cond = cond } }
     {
         PinCost { cost, cond }
@@ -72,7 +70,7 @@ pub fn designated(
 pub fn pin_cost(rules: &[PinCost], head: &Head) -> u16
     ensures exact { result ≡ pin_cost head.now rules.now }
     ensures least { 1 ≤ result }
-    ensures greatest { result ≤ 1000 }
+    ensures greatest { result ≤ MAX_COST }
 {
     for rule in rules {
         if rule.cond.eval(head) {

@@ -1,13 +1,12 @@
 ghost use Rattle.std.specs.Prelude.{◌≡◌, ◌++◌, codes, OnOk, IfOk, IfSome};
 ghost use Rattle.std.specs.List.{flat_map};
 ghost use Rattle.std.specs.Io.KnownBytes.{Appends};
-ghost use Rattle.lb_config_references.specs.References.{checked_in};
+ghost use Rattle.lb_config_sections.specs.References.{checked_in};
 ghost use Rattle.lb_cli.specs.Checking.{line_label, cause_name, cause_text, fault_line, warning_line, report_of, is_valid};
 
 use crate::JobError;
 use crate::input::whole;
-use lb_config_references::read_checked;
-use lb_config_sections::{Cause, ConfigFault, LocatedFault, Sections, Warning};
+use lb_config_sections::{Cause, ConfigFault, LocatedFault, Sections, Warning, read_checked};
 use std::alloc::{AllocError, Global};
 use std::io::{Read, Write};
 

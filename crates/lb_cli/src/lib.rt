@@ -20,6 +20,3 @@ pub use job_error::JobError;
 pub use jobs::perform;
 pub use plan_job::plan;
 pub use verify_job::verify;
-
-#[cfg(test)]
-mod tests;

@@ -17,6 +17,3 @@ pub use clap::error::ErrorKind;
 pub use error::exit_status;
 pub use job::Job;
 pub use words::read_words;
-
-#[cfg(test)]
-mod tests;

@@ -1,4 +1,4 @@
 pub mod Backends
 pub mod Distinct
-pub mod DraftLaws
+pub mod ProxiesSoFarLaws
 pub mod Steps

@@ -5,8 +5,8 @@ use Rattle.std.specs.Option.{option_to_list}
 use Rattle.std.proofs.lemmas.List.{drop_all, at_drop_more, append_assoc, append-nil}
 use Rattle.lb_config_sections.specs.SectionView.{SectionView}
 use Rattle.lb_config.specs.BasisView.{BasisView}
-use Rattle.lb_config.specs.DraftView.{DraftView}
-use Rattle.lb_config.specs.Drafts.{with_section, with_sections}
+use Rattle.lb_config.specs.ProxiesSoFarView.{ProxiesSoFarView}
+use Rattle.lb_config.specs.ProxiesSoFar.{with_section, with_sections}
 
 cons_first : {Y : Type 0} (o : Option Y) (ys : List Y) → cons_option o ys ≡ option_to_list o ++ ys
 cons_first None ys = refl
@@ -24,7 +24,7 @@ pub gather_end : {X Y : Type 0} (f : X → Option Y) (front : List Y) (xs : List
 gather_end f front xs i past = ap (λ rest. front ++ filter_map f rest) (drop_all i xs past) ∙ append-nil front
 
 -- one section more
-pub sections_push : (basis : BasisView) (draft : DraftView) (sections : List SectionView) (section : SectionView) →
+pub sections_push : (basis : BasisView) (draft : ProxiesSoFarView) (sections : List SectionView) (section : SectionView) →
     with_sections basis draft (sections ++ section ∷ []) ≡ with_section basis (with_sections basis draft sections) section
 sections_push basis draft [] section = refl
 sections_push basis draft (first ∷ more) section = sections_push basis (with_section basis draft first) more section

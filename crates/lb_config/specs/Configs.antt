@@ -4,14 +4,14 @@
 use Rattle.std.specs.Prelude.{ℕ, List, [], ◌∷◌, ◌++◌, map, Option, Some, None, Result, Ok, unwrap_or, if◌then◌else◌}
 use Rattle.std.specs.List.{filter_map}
 use Rattle.std.specs.Option.{option_map, option_or, option_to_list}
-use Rattle.check_rule.specs.CheckRequests.{CheckLine}
-use Rattle.lb_config_lines.specs.declared.setting.Balance.TheVariants.{RoundRobin}
+use Rattle.check_workers_rule.specs.CheckRequests.{CheckLine}
+use Rattle.lb_config_keywords.specs.declared.balance.Balance.TheVariants.{RoundRobin}
 use Rattle.lb_config_lines.specs.declared.setting.Setting.{Setting}
-use Rattle.lb_config_lines.specs.declared.statement.Section.{Section}
-use Rattle.lb_config_lines.specs.declared.statement.Section.TheVariants as Kind
-use Rattle.lb_config_lines.specs.Sections.{is_back, is_front}
-use Rattle.lb_config_references.specs.Names.{backend_name}
-use Rattle.lb_config_references.specs.References.{checked_in}
+use Rattle.lb_config_keywords.specs.declared.section.Section.{Section}
+use Rattle.lb_config_keywords.specs.declared.section.Section.TheVariants as Kind
+use Rattle.lb_config_keywords.specs.Sections.{is_back, is_front}
+use Rattle.lb_config_sections.specs.Names.{backend_name}
+use Rattle.lb_config_sections.specs.References.{checked_in}
 use Rattle.lb_config_rules.specs.Parts.{table_in}
 use Rattle.lb_config_rules.specs.Rules.{back_rules, front_rules, place_of}
 use Rattle.lb_config_sections.specs.Causes.{◌>>=◌}

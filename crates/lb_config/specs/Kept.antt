@@ -3,16 +3,17 @@
 use Rattle.std.specs.Prelude.{◌≢◌, ◌≤◌, Bool, ◌&&◌, not, nat_lt, List, [], ◌∷◌, ◌++◌, length, AllPairs, if◌then◌else◌}
 use Rattle.std.specs.List.{list_any}
 use Rattle.std.specs.Str.{bytes_eq}
+use Rattle.lb_types.specs.declared.limits.TheConstants.{MAX_SERVERS}
 use Rattle.lb_config_values.specs.ServerView.{ServerView}
 
 -- at most 128 servers with distinct names
 pub record IsServers (servers : List ServerView) : Type 0 where
-  pub few : length servers ≤ 128
+  pub few : length servers ≤ MAX_SERVERS
   pub distinct : AllPairs (λ a b. a.name ≢ b.name) servers
 
 -- there is room behind these servers, and none has the name
 abbrev pub may_follow : List ServerView → ServerView → Bool
-may_follow front server = nat_lt (length front) 128 && not (list_any (λ other. bytes_eq other.name server.name) front)
+may_follow front server = nat_lt (length front) MAX_SERVERS && not (list_any (λ other. bytes_eq other.name server.name) front)
 
 abbrev pub with_kept : List ServerView → ServerView → List ServerView
 with_kept front server = if may_follow front server then front ++ server ∷ [] else front

@@ -1,9 +1,9 @@
 pub mod BasisView
 pub mod ConfigViews
 pub mod Configs
-pub mod DraftView
-pub mod Drafts
 pub mod Finds
 pub mod Fronts
 pub mod Kept
 pub mod Limits
+pub mod ProxiesSoFar
+pub mod ProxiesSoFarView

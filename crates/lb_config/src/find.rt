@@ -4,7 +4,7 @@ ghost use Rattle.lb_config.specs.Finds.{find_backend, find_server, number_of, se
 
 use crate::{BackendConfig, Config};
 use lb_config_values::ServerConfig;
-use lb_types::{Name, ServerId};
+use lb_types::{MAX_SERVERS, Name, ServerId};
 use thiserror::Error;
 
 /// Why a name was not found.
@@ -72,7 +72,7 @@ fn server_place(servers: &[ServerConfig], name: &Name) -> Option<ServerId>
     ensures { result ≡ server_place servers.now name.now }
 {
     match position_of(servers, name) {
-        Some(place) if place < ServerId::LIMIT => Some(ServerId::new(place as u8)),
+        Some(place) if place < MAX_SERVERS => Some(ServerId::new(place as u8)),
         _ => None,
     }
 }

@@ -4,7 +4,7 @@ ghost use Rattle.std.specs.Str.{bytes_eq};
 ghost use Rattle.lb_config.specs.Kept.{IsServers, kept_behind, may_follow, with_kept};
 
 use lb_config_values::ServerConfig;
-use lb_types::{Name, ServerId};
+use lb_types::{MAX_SERVERS, Name};
 use std::alloc::{AllocError, Global};
 
 /// The servers that a backend has: of two servers of one name the first, and the first 128. A text with more is refused before, so
@@ -35,7 +35,7 @@ fn keep(kept: &mut Vec<ServerConfig>, server: ServerConfig) -> Result<(), AllocE
 fn may_follow(kept: &[ServerConfig], server: &ServerConfig) -> bool
     ensures { result ≡ may_follow kept.now server.now }
 {
-    kept.len() < ServerId::LIMIT && !is_taken(kept, server.name())
+    kept.len() < MAX_SERVERS && !is_taken(kept, server.name())
 }
 
 /// Whether one of the servers has this name.

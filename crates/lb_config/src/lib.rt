@@ -7,11 +7,11 @@
 
 mod backend;
 mod config;
-mod draft;
 mod find;
 mod frontend;
 mod kept;
 mod names;
+mod proxies_so_far;
 mod proxy;
 mod reading;
 

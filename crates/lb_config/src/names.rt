@@ -1,7 +1,7 @@
 ghost use Rattle.std.specs.Prelude.{◌≡◌, ◌++◌, IfOk, OnOk, map};
 ghost use Rattle.std.specs.List.{filter_map};
 ghost use Rattle.std.specs.Option.{option_to_list};
-ghost use Rattle.lb_config_references.specs.Names.{backend_name};
+ghost use Rattle.lb_config_sections.specs.Names.{backend_name};
 
 use lb_config_lines::Section;
 use lb_config_sections::ConfigSection;

@@ -1,5 +1,6 @@
 ghost use Rattle.std.specs.Prelude.{◌≡◌, ◌≤◌, IfOk};
 ghost use Rattle.std.specs.Option.{ForSome, option_or};
+ghost use Rattle.lb_types.specs.declared.limits.TheConstants.{MAX_PINS};
 ghost use Rattle.lb_config.specs.Kept.{IsServers};
 ghost use Rattle.lb_config.specs.Configs.{backend_of, frontend_of, max_pins_of, optional_place, servers_of, size_in, values_of};
 
@@ -95,7 +96,7 @@ fn servers_of(
 /// The size of the section's table, or 0.
 fn max_pins_of(settings: &[NumberedSetting]) -> u32
     ensures exact { result ≡ max_pins_of settings.now }
-    ensures within { result ≤ 16777216 }
+    ensures within { result ≤ MAX_PINS }
 {
     let mut size = None;
     for numbered in settings {
@@ -106,9 +107,9 @@ fn max_pins_of(settings: &[NumberedSetting]) -> u32
 
 /// The size of the table that the setting is, or the size before it.
 fn later_size(size: Option<u32>, setting: &Setting) -> Option<u32>
-    requires { ForSome size (λ number. number ≤ 16777216) }
+    requires { ForSome size (λ number. number ≤ MAX_PINS) }
     ensures exact { result ≡ option_or (size_in setting.now) size }
-    ensures within { ForSome result (λ number. number ≤ 16777216) }
+    ensures within { ForSome result (λ number. number ≤ MAX_PINS) }
 {
     match setting {
         Setting::StickTable(table) => Some(table.size()),

@@ -4,17 +4,16 @@ ghost use Rattle.lb_config_sections.specs.Causes.{Gives};
 ghost use Rattle.lb_config.specs.Configs.{config_in, config_of, globals_of, with_global_section};
 
 use crate::Config;
-use crate::draft::read_proxies;
 use crate::names::backend_names;
+use crate::proxies_so_far::read_proxies;
 use crate::proxy::Basis;
-use lb_acl::Text;
 use lb_config_lines::{Section, SocketAddress};
-use lb_config_references::read_checked;
-use lb_config_sections::{ConfigFault, ConfigSection, Sections};
+use lb_config_sections::{ConfigFault, ConfigSection, Sections, read_checked};
 use lb_config_values::GlobalValues;
+use lb_config_words::Word;
 use std::alloc::{AllocError, Global};
 
-/// The configuration that the text is, or its first fault, as `lb_config_references::read_checked` tells it.
+/// The configuration that the text is, or its first fault, as `lb_config_sections::read_checked` tells it.
 ///
 /// Cost: a few walks over the lines, and of each backend its servers against each other. The lines of ACLs and the words of
 /// `option httpchk` are kept once for all that share them.
@@ -80,7 +79,7 @@ fn copied_address(
         Some(SocketAddress::Tcp(endpoint)) => Ok(Some(SocketAddress::Tcp(*endpoint))),
         Some(SocketAddress::Path(path)) => {
             let bytes = Vec::from_slice(alloc, path.as_bytes())?;
-            Ok(Some(SocketAddress::Path(Text::new(bytes))))
+            Ok(Some(SocketAddress::Path(Word::new(bytes))))
         }
     }
 }

@@ -8,6 +8,8 @@ use Rattle.std.specs.Option.{option_map}
 use Rattle.lb_types_text.specs.declared.numbers.Digits.{Digits}
 use Rattle.lb_types_text.specs.declared.numbers.Digits.TheVariants.{Misspelt, TooLarge, Value}
 use Rattle.lb_types_text.specs.Numbers.{digits_of}
+use Rattle.lb_types.specs.declared.limits.TheConstants.{MAX_PINS}
+use Rattle.lb_config_arguments.specs.declared.numbers.TheConstants.{MAX_MILLIS}
 use Rattle.lb_config_arguments.specs.declared.fault.Fault.{Fault}
 use Rattle.lb_config_arguments.specs.declared.fault.Fault.TheVariants.{BadNumber}
 
@@ -56,8 +58,8 @@ number_in least most word = within least most (amount_of (Some 1) (digits_of wor
 
 -- a time in milliseconds
 unfoldable pub time_in : List ℕ → Result ℕ Fault
-time_in word = within 0 2147483647 (option_map (λ micros. div_ceil micros 1000) (quantity_of time_unit word))
+time_in word = within 0 MAX_MILLIS (option_map (λ micros. div_ceil micros 1000) (quantity_of time_unit word))
 
 -- the size of a table
 unfoldable pub size_in : List ℕ → Result ℕ Fault
-size_in word = within 1 16777216 (quantity_of size_unit word)
+size_in word = within 1 MAX_PINS (quantity_of size_unit word)

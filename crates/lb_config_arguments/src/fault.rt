@@ -1,4 +1,4 @@
-use lb_acl::Text;
+use lb_config_words::Word;
 use std::alloc::{AllocError, AllocFailed};
 use thiserror::Error;
 
@@ -18,7 +18,7 @@ pub enum Fault {
     /// 28: a line has more than 64 words.
     TooMany,
     /// 29: the word, or the character, is one that this balancer leaves out.
-    LeftOut(Text),
+    LeftOut(Word),
 }
 
 /// Why a line was not read.

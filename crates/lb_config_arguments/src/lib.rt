@@ -2,7 +2,7 @@
 //!
 //! Promised: each reader gives exactly what its function in `specs/` gives, the value or the first fault. Where a line's spelling
 //! breaks off, that fault stands in the place of the next word. Start at `Words`; the steps of readers that take every word of a
-//! line are in `proofs/WordSteps`.
+//! line are in `proofs/WordSteps`. Private to `lb_config`.
 #![tactic(auto)]
 
 mod address;
@@ -14,6 +14,3 @@ pub use address::{Endpoint, read_ipv4, read_listen_endpoint, read_server_endpoin
 pub use fault::{Fault, LineError};
 pub use numbers::{read_number, read_size, read_time};
 pub use words::{Words, is, read_name};
-
-#[cfg(test)]
-mod tests;

@@ -3,7 +3,11 @@ ghost use Rattle.std.specs.Int.{div_ceil};
 ghost use Rattle.lb_config_arguments.specs.Numbers.{within, amount_of, digit_count, quantity_of, time_unit, size_unit, number_in, time_in, size_in};
 
 use crate::{Fault, is};
+use lb_types::MAX_PINS;
 use lb_types_text::Digits;
+
+/// The longest time, in milliseconds: some 24.8 days, as in HAProxy.
+const MAX_MILLIS: u64 = 2_147_483_647;
 
 /// The number that the word is, in the range from `least` to `most`. Leading zeros are allowed.
 #[tactic(auto, unfolding(crate::specs::Numbers::number_in))]
@@ -22,7 +26,7 @@ pub fn read_time(word: &[u8]) -> Result<u32, Fault>
     ensures { result ≡ time_in word.now }
 {
     let millis = micros(word).map(|micros| micros.div_ceil(1000));
-    Ok(within(0, 2147483647, millis)? as u32)
+    Ok(within(0, MAX_MILLIS, millis)? as u32)
 }
 
 /// A time in microseconds.
@@ -39,9 +43,9 @@ fn micros(word: &[u8]) -> Option<u64>
 pub fn read_size(word: &[u8]) -> Result<u32, Fault>
     ensures exact { result ≡ size_in word.now }
     ensures at_least { IfOk result (λ size. 1 ≤ size) }
-    ensures at_most { IfOk result (λ size. size ≤ 16777216) }
+    ensures at_most { IfOk result (λ size. size ≤ MAX_PINS) }
 {
-    Ok(within(1, 16777216, entries(word))? as u32)
+    Ok(within(1, MAX_PINS, entries(word))? as u32)
 }
 
 /// A number of entries.

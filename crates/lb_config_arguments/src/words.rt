@@ -4,7 +4,6 @@ ghost use Rattle.lb_config_arguments.specs.Faults.{Gives, Takes, fault_at_end, f
 ghost use Rattle.lb_config_arguments.specs.Reading.{rest_of, word_at, word_or_end_at, end_at, more_at, due_at, name_in, name_at};
 
 use crate::{Fault, LineError};
-use lb_acl::Text;
 use lb_config_words::{SpellingFault, Word};
 use lb_types::Name;
 use std::alloc::{AllocError, Global};
@@ -120,10 +119,10 @@ impl<'a> Words<'a> {
     }
 
     /// A copy of the word.
-    pub fn copied(&self, word: &[u8]) -> Result<Text, AllocError>
-        ensures { IfOk result (λ text. text ≡ word.now) }
+    pub fn copied(&self, word: &[u8]) -> Result<Word, AllocError>
+        ensures { IfOk result (λ copy. copy ≡ word.now) }
     {
-        Ok(Text::new(Vec::from_slice(self.alloc, word)?))
+        Ok(Word::new(Vec::from_slice(self.alloc, word)?))
     }
 
     /// The fault where a word is wanted and the words end.

@@ -1,5 +1,6 @@
 -- Rules: HAProxy Configuration Manual 2.8, `use_backend`, `use-server`. `pin-cost` is this project's own.
 use Rattle.std.specs.Prelude.{Result, Ok}
+use Rattle.lb_types.specs.declared.limits.TheConstants.{MAX_COST}
 use Rattle.lb_config_arguments.specs.declared.fault.Fault.{Fault}
 use Rattle.lb_config_arguments.specs.Faults.{◌>>=◌}
 use Rattle.lb_config_arguments.specs.Numbers.{number_in}
@@ -28,6 +29,6 @@ server_rule_at rest = do
 unfoldable pub cost_rule_at : Rest → Result CostRuleView Fault
 cost_rule_at rest = do
   word ← word_at rest
-  cost ← number_in 1 1000 word.0
+  cost ← number_in 1 MAX_COST word.0
   cond ← rule_cond_at word.1
   Ok (record { cost = cost; cond = cond })

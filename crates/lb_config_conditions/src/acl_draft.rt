@@ -4,7 +4,7 @@ ghost use Rattle.lb_config_arguments.specs.Faults.{Gives};
 ghost use Rattle.lb_config_arguments.specs.Reading.{each_word};
 ghost use Rattle.lb_config_conditions.specs.AclLines.{no_acl, prefix_in, network_in, takes_flags, flag_word, value_word, argument_word, acl_word, acl_end, acl_at};
 
-use crate::call::place_of;
+use crate::call::{kept, place_of};
 use crate::criterion::{Criterion, read_criterion};
 use lb_acl::{AclLine, Network, SourceTest, Text, TextTest};
 use lb_config_arguments::{Fault, LineError, Words, is, read_ipv4, read_number};
@@ -114,7 +114,7 @@ impl AclDraft {
             self.networks.push(network)?;
             return Ok(());
         }
-        self.texts.push(words.copied(word)?)?;
+        self.texts.push(kept(words, word)?)?;
         Ok(())
     }
 

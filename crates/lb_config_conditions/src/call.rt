@@ -1,10 +1,11 @@
-ghost use Rattle.std.specs.Prelude.{◌≡◌, ◌≤◌, ◌==◌, ◌||◌, length, bytes_eq};
+ghost use Rattle.std.specs.Prelude.{◌≡◌, ◌≤◌, ◌==◌, ◌||◌, length, IfOk, bytes_eq};
 ghost use Rattle.std.specs.List.{list_any, list_all};
 ghost use Rattle.lb_config_conditions.specs.Calls.{place_of, is_call, call_name, call_argument, has_one_argument, is_call_of, is_token_byte, token_in};
 ghost use Rattle.lb_config_arguments.specs.Faults.{Gives};
 
 use lb_acl::Text;
 use lb_config_arguments::{Fault, LineError, Words, is};
+use std::alloc::AllocError;
 
 /// Whether the word is a call of the one or the other name with one argument.
 #[tactic(auto, unfolding(crate::specs::Calls::is_call_of))]
@@ -37,7 +38,14 @@ fn token(words: &Words, argument: &[u8]) -> Result<Text, LineError>
     if !is_token(argument) {
         return Err(Fault::BadName.into());
     }
-    Ok(words.copied(argument)?)
+    Ok(kept(words, argument)?)
+}
+
+/// The text of the bytes, for a condition to keep.
+pub(crate) fn kept(words: &Words, bytes: &[u8]) -> Result<Text, AllocError>
+    ensures { IfOk result (λ text. text ≡ bytes.now) }
+{
+    Ok(Text::new(Vec::from_slice(words.alloc(), bytes)?))
 }
 
 fn is_token(bytes: &[u8]) -> bool

@@ -1,8 +1,8 @@
 //! ACLs, conditions and rules of a configuration as words of a line.
 //!
 //! Promised: each reader gives exactly what its function in `specs/` gives, the value or the first fault from the left. A condition
-//! keeps the names of its ACLs: they are looked up when all lines are read. Start at `read_rule_cond`; a word's meaning in a
-//! condition is in `specs/CondLines`, in an ACL in `specs/AclLines`.
+//! keeps the names of its ACLs: they are looked up when all lines are read. Start at
+//! `read_server_rule`; a word's meaning in a condition is in `specs/CondLines`, in an ACL in `specs/AclLines`. Private to `lb_config`.
 #![tactic(auto)]
 
 mod acl_draft;
@@ -19,6 +19,3 @@ pub use rules::{
     read_declaration, read_server_rule,
 };
 pub use unresolved::{Alternative, UnresolvedAcl, UnresolvedCond, UnresolvedTerm};
-
-#[cfg(test)]
-mod tests;

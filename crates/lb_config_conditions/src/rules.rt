@@ -8,7 +8,7 @@ use crate::acl_draft::read_acl;
 use crate::cond_lines::{read_optional_cond, read_rule_cond};
 use lb_acl::AclLine;
 use lb_config_arguments::{LineError, Words, read_number};
-use lb_types::Name;
+use lb_types::{MAX_COST, Name};
 use std::marker::Model;
 
 /// A line `acl`.
@@ -63,7 +63,7 @@ impl CostRule {
     pub fn cost(&self) -> u16
         ensures exact { result ≡ self.now.cost }
         ensures least { 1 ≤ result }
-        ensures greatest { result ≤ 1000 }
+        ensures greatest { result ≤ MAX_COST }
     {
         self.cost
     }
@@ -109,7 +109,7 @@ pub fn read_cost_rule(words: &mut Words) -> Result<CostRule, LineError>
     ensures { Gives (λ rule. rule) result (cost_rule_at words.old) }
 {
     let word = words.next_word()?;
-    let cost = read_number(1, 1000, word)?;
+    let cost = read_number(1, MAX_COST, word)?;
     let cond = read_rule_cond(words)?;
     Ok(CostRule {
         cost: cost as u16,

@@ -7,6 +7,8 @@ use Rattle.std.specs.BTreeSet.{insert_key}
 use Rattle.std.specs.Cmp.Lexicographic.{slice_cmp}
 use Rattle.std.specs.Ordering.{nat_cmp}
 use Rattle.std.specs.Str.{bytes_eq}
+use Rattle.lb_types.specs.declared.limits.TheConstants.{MAX_SERVERS}
+use Rattle.lb_config_limits.specs.declared.declarations.TheConstants.{MAX_BACKENDS, MAX_LINES}
 use Rattle.lb_config_limits.specs.declared.fault.LimitFault.{LimitFault}
 use Rattle.lb_config_limits.specs.declared.fault.LimitFault.TheVariants.{Duplicate, TooMany, SecondStick}
 use Rattle.lb_config_limits.specs.declared.fault.LimitError.{LimitError}
@@ -53,7 +55,7 @@ with_room limit names = if nat_lt (length names) limit then Ok _ else Err TooMan
 
 -- the count with one line more
 abbrev pub one_more : ℕ → Result ℕ LimitFault
-one_more count = if nat_lt count 256 then Ok (count + 1) else Err TooMany
+one_more count = if nat_lt count MAX_LINES then Ok (count + 1) else Err TooMany
 
 -- a section `frontend`
 unfoldable pub take_frontend : DeclaredView → List (List ℕ) → Result DeclaredView LimitFault
@@ -64,14 +66,14 @@ take_frontend d words = do
 -- a section `backend`
 unfoldable pub take_backend : DeclaredView → List (List ℕ) → Result DeclaredView LimitFault
 take_backend d words = do
-  room ← with_room 64 d.backends
+  room ← with_room MAX_BACKENDS d.backends
   names ← added d.backends (name_in words)
   Ok (new_section (record d { backends = names }))
 
 -- a section `listen` is a frontend and a backend
 unfoldable pub take_listen : DeclaredView → List (List ℕ) → Result DeclaredView LimitFault
 take_listen d words = do
-  room ← with_room 64 d.backends
+  room ← with_room MAX_BACKENDS d.backends
   frontends ← added d.frontends (name_in words)
   backends ← added d.backends (name_in words)
   Ok (new_section (record d { frontends = frontends; backends = backends }))
@@ -79,7 +81,7 @@ take_listen d words = do
 -- a server
 unfoldable pub take_server : DeclaredView → List (List ℕ) → Result DeclaredView LimitFault
 take_server d words = do
-  room ← with_room 128 d.servers
+  room ← with_room MAX_SERVERS d.servers
   names ← added d.servers (name_in words)
   Ok (record d { servers = names })
 

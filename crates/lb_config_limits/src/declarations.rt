@@ -5,14 +5,12 @@ use crate::kind::{Kind, name_in};
 use crate::name_set::NameSet;
 use crate::{LimitError, LimitFault};
 use lb_config_words::Word;
+use lb_types::MAX_SERVERS;
 use std::alloc::Global;
 use std::marker::Model;
 
 /// How many backends there may be.
 const MAX_BACKENDS: usize = 64;
-
-/// How many servers a section may have.
-const MAX_SERVERS: usize = 128;
 
 /// How many `acl` lines, and how many rules, a section may have.
 const MAX_LINES: u32 = 256;

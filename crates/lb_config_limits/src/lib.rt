@@ -2,7 +2,8 @@
 //! have a second `stick on` in its section.
 //!
 //! Promised: `Declarations::take` is the function on the lines' words that `specs/Limits` defines. These faults are told at a
-//! line's first or second word, so they go before what `lb_config_lines` finds behind it. Start at `Declarations`.
+//! line's first or second word, so they go before what `lb_config_lines` finds behind it. Start at `Declarations`. Private to
+//! `lb_config_sections`; a crate of its own, since it is proved beside `lb_config_lines`.
 #![tactic(auto)]
 
 mod declarations;
@@ -13,6 +14,3 @@ mod ordered_name;
 
 pub use declarations::Declarations;
 pub use fault::{LimitError, LimitFault};
-
-#[cfg(test)]
-mod tests;

@@ -1,4 +1,2 @@
-pub mod Keywords
 pub mod Lines
-pub mod Sections
-pub mod SettingLines
+pub mod StickLines

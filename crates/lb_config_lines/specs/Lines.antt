@@ -1,5 +1,5 @@
 -- What a line says in its section: HAProxy Configuration Manual 2.8, sections 2 to 4. The first fault from the left is told.
-use Rattle.std.specs.Prelude.{ℕ, Bool, ◌||◌, List, [], ◌∷◌, Option, Some, None, Result, Ok, Err, codes, bytes_eq, if◌then◌else◌}
+use Rattle.std.specs.Prelude.{ℕ, List, [], ◌∷◌, Option, Some, None, Result, Ok, Err, codes, bytes_eq, if◌then◌else◌}
 use Rattle.lb_config_words.specs.declared.fault.SpellingFault.{SpellingFault}
 use Rattle.lb_config_arguments.specs.declared.fault.Fault.{Fault}
 use Rattle.lb_config_arguments.specs.declared.fault.Fault.TheVariants.{UnknownSection, UnknownWord, LeftOut}
@@ -8,29 +8,31 @@ use Rattle.lb_config_arguments.specs.Reading.{rest_of, word_at, word_or_end_at, 
 use Rattle.lb_config_arguments.specs.Rest.{Rest}
 use Rattle.lb_config_conditions.specs.AclLines.{declaration_at}
 use Rattle.lb_config_conditions.specs.RuleLines.{backend_rule_at, server_rule_at, cost_rule_at}
-use Rattle.lb_config_server.specs.ServerLines.{server_at, default_server_at}
-use Rattle.lb_config_lines.specs.declared.keyword.ProxyKeyword.{ProxyKeyword}
-use Rattle.lb_config_lines.specs.declared.keyword.ProxyKeyword.TheVariants as Proxy
-use Rattle.lb_config_lines.specs.declared.keyword.ServerKeyword.{ServerKeyword}
-use Rattle.lb_config_lines.specs.declared.keyword.ServerKeyword.TheVariants as Server
-use Rattle.lb_config_lines.specs.declared.keyword.CommonKeyword.{CommonKeyword}
-use Rattle.lb_config_lines.specs.declared.keyword.CommonKeyword.TheVariants as Common
-use Rattle.lb_config_lines.specs.declared.second_word.OptionName.{OptionName}
-use Rattle.lb_config_lines.specs.declared.second_word.OptionName.TheVariants as Named
+use Rattle.lb_config_parameters.specs.ServerLines.{server_at, default_server_at}
+use Rattle.lb_config_keywords.specs.declared.keyword.ProxyKeyword.{ProxyKeyword}
+use Rattle.lb_config_keywords.specs.declared.keyword.ProxyKeyword.TheVariants as Proxy
+use Rattle.lb_config_keywords.specs.declared.keyword.ServerKeyword.{ServerKeyword}
+use Rattle.lb_config_keywords.specs.declared.keyword.ServerKeyword.TheVariants as Server
+use Rattle.lb_config_keywords.specs.declared.keyword.CommonKeyword.{CommonKeyword}
+use Rattle.lb_config_keywords.specs.declared.keyword.CommonKeyword.TheVariants as Common
+use Rattle.lb_config_keywords.specs.declared.second_word.OptionName.{OptionName}
+use Rattle.lb_config_keywords.specs.declared.second_word.OptionName.TheVariants as Named
 use Rattle.lb_config_lines.specs.declared.setting.Setting.{Setting}
 use Rattle.lb_config_lines.specs.declared.setting.Setting.TheVariants as Set
-use Rattle.lb_config_lines.specs.declared.setting.Timeout.{Timeout}
-use Rattle.lb_config_lines.specs.declared.setting.Timeout.TheVariants as Time
+use Rattle.lb_config_keywords.specs.declared.second_word.Timeout.{Timeout}
 use Rattle.lb_config_lines.specs.declared.statement.Header.{Header}
 use Rattle.lb_config_lines.specs.declared.statement.IgnoredWords.TheVariants.{First, FirstTwo}
-use Rattle.lb_config_lines.specs.declared.statement.Section.{Section}
-use Rattle.lb_config_lines.specs.declared.statement.Section.TheVariants.{Global, Defaults}
+use Rattle.lb_config_keywords.specs.declared.section.Section.{Section}
+use Rattle.lb_config_keywords.specs.declared.section.Section.TheVariants.{Global, Defaults}
 use Rattle.lb_config_lines.specs.declared.statement.Statement.{Statement}
 use Rattle.lb_config_lines.specs.declared.statement.Statement.TheVariants as Says
-use Rattle.lb_config_lines.specs.Keywords.{proxy_keyword, proxy_stands_in, server_keyword, server_stands_in, common_keyword, common_stands_in, is_ignored, is_left_out}
-use Rattle.lb_config_lines.specs.Sections.{section_of, is_left_out_section, is_one_of, is_proxy, is_front, is_back, is_defaults, is_global}
-use Rattle.lb_config_lines.specs.SettingLines.{mode_at, balance_at, bind_at, default_backend_at, tuning_at, last_time_at, stick_at, http_check_at, stats_socket_at, bare_end_at, end_or_one_of}
-use Rattle.lb_config_table.specs.StickTables.{stick_table_at}
+use Rattle.lb_config_keywords.specs.Keywords.{proxy_keyword, proxy_stands_in, server_keyword, server_stands_in, common_keyword, common_stands_in, is_ignored, is_left_out}
+use Rattle.lb_config_keywords.specs.Sections.{section_of, is_left_out_section, is_global}
+use Rattle.lb_config_keywords.specs.SettingLines.{mode_at, balance_at, bind_at, default_backend_at, tuning_at, last_time_at, http_check_at, stats_socket_at, bare_end_at}
+use Rattle.lb_config_lines.specs.StickLines.{end_or_one_of, stick_at}
+use Rattle.lb_config_keywords.specs.SecondWords.{timeout_of, timeout_stands_in, is_ignored_timeout, option_of, option_stands_in, is_ignored_option}
+use Rattle.lb_config_parameters.specs.StickTables.{stick_table_at}
+use Rattle.lb_config_lines.specs.declared.common_line.TheConstants.{MAX_JOURNAL, MAX_RELAYS, MAX_TRIES}
 
 -- what stands behind a keyword of requests
 unfoldable pub proxy_setting_at : ProxyKeyword → Rest → Result Setting Fault
@@ -50,24 +52,6 @@ server_setting_at Server.Stick rest = stick_at rest >>= λ sample. Ok (Set.Stick
 server_setting_at Server.UseServer rest = server_rule_at rest >>= λ rule. Ok (Set.UseServer rule)
 server_setting_at Server.PinCost rest = cost_rule_at rest >>= λ rule. Ok (Set.PinCost rule)
 
--- what a time limits
-unfoldable pub timeout_of : List ℕ → Option Timeout
-timeout_of word =
-    if bytes_eq word (codes "client") then Some Time.Client
-    else (if bytes_eq word (codes "connect") then Some Time.Connect
-    else (if bytes_eq word (codes "server") then Some Time.Server
-    else (if bytes_eq word (codes "queue") then Some Time.Queue
-    else (if bytes_eq word (codes "check") then Some Time.Check else None))))
-
-abbrev pub timeout_stands_in : Timeout → Section → Bool
-timeout_stands_in Time.Client section = is_front section || is_defaults section
-timeout_stands_in _ section = is_back section || is_defaults section
-
--- times that are ignored
-unfoldable pub is_ignored_timeout : List ℕ → Bool
-is_ignored_timeout word =
-    is_one_of (codes "http-request" ∷ codes "http-keep-alive" ∷ codes "tunnel" ∷ codes "client-fin" ∷ codes "server-fin" ∷ []) word
-
 abbrev pub timeout_named : Section → List ℕ → Option Timeout → Rest → Result Statement Fault
 timeout_named section word (Some timeout) rest =
     if timeout_stands_in timeout section then (last_time_at rest >>= λ millis. Ok (Says.Setting (Set.Timeout timeout millis)))
@@ -78,30 +62,12 @@ timeout_named section word None rest = if is_ignored_timeout word then Ok (Says.
 unfoldable pub timeout_at : Section → Rest → Result Statement Fault
 timeout_at section rest = word_at rest >>= λ word. timeout_named section word.0 (timeout_of word.0) word.1
 
--- the option of this name
-unfoldable pub option_of : List ℕ → Option OptionName
-option_of word =
-    if bytes_eq word (codes "httpchk") then Some Named.HttpCheck
-    else (if bytes_eq word (codes "allbackups") then Some Named.AllBackups
-    else (if bytes_eq word (codes "evacuate") then Some Named.Evacuate
-    else (if bytes_eq word (codes "forwardfor") then Some Named.ForwardFor else None)))
-
-abbrev pub option_stands_in : OptionName → Section → Bool
-option_stands_in Named.ForwardFor section = is_proxy section
-option_stands_in _ section = is_back section || is_defaults section
-
 -- what stands behind an option; `forwardfor` has no arguments here
 unfoldable pub option_setting_at : OptionName → Rest → Result Setting Fault
 option_setting_at Named.HttpCheck rest = http_check_at rest >>= λ check. Ok (Set.HttpCheck check)
 option_setting_at Named.AllBackups rest = end_at rest >>= λ end. Ok Set.AllBackups
 option_setting_at Named.Evacuate rest = end_at rest >>= λ end. Ok Set.Evacuate
 option_setting_at Named.ForwardFor rest = bare_end_at rest >>= λ end. Ok Set.ForwardFor
-
--- options that are ignored
-unfoldable pub is_ignored_option : List ℕ → Bool
-is_ignored_option word =
-    is_one_of (codes "httplog" ∷ codes "dontlognull" ∷ codes "redispatch" ∷ codes "http-server-close" ∷ codes "http-keep-alive"
-    ∷ codes "log-health-checks" ∷ codes "httpclose" ∷ []) word
 
 -- an option that has no meaning here
 unfoldable pub other_option : List ℕ → Result Statement Fault
@@ -134,9 +100,9 @@ unfoldable pub common_statement_at : CommonKeyword → Section → Rest → Resu
 common_statement_at Common.Timeout section rest = timeout_at section rest
 common_statement_at Common.Option section rest = option_at section rest
 common_statement_at Common.Stats section rest = stats_at section rest
-common_statement_at Common.Relays section rest = tuning_at 1 64 rest >>= λ number. Ok (Says.Setting (Set.Relays number))
-common_statement_at Common.Tries section rest = tuning_at 1 1000 rest >>= λ number. Ok (Says.Setting (Set.Tries number))
-common_statement_at Common.Journal section rest = tuning_at 1 1000000 rest >>= λ number. Ok (Says.Setting (Set.Journal number))
+common_statement_at Common.Relays section rest = tuning_at 1 MAX_RELAYS rest >>= λ number. Ok (Says.Setting (Set.Relays number))
+common_statement_at Common.Tries section rest = tuning_at 1 MAX_TRIES rest >>= λ number. Ok (Says.Setting (Set.Tries number))
+common_statement_at Common.Journal section rest = tuning_at 1 MAX_JOURNAL rest >>= λ number. Ok (Says.Setting (Set.Journal number))
 
 -- a line whose first word is no keyword
 unfoldable pub other_statement : List ℕ → Result Statement Fault

@@ -1,14 +1,21 @@
 ghost use Rattle.lb_config_arguments.specs.Faults.{Gives};
 ghost use Rattle.lb_config_lines.specs.Lines.{timeout_at, option_setting_at, other_option, option_at, stats_behind, stats_at, common_statement_at, other_statement, common_line_at};
 
-use crate::http_check::read_http_check;
-use crate::ignored::{is_ignored, is_left_out};
-use crate::keyword::CommonKeyword;
-use crate::second_word::{OptionName, is_ignored_option, is_ignored_timeout};
-use crate::setting_lines::{read_bare_end, read_last_time, read_tuning};
-use crate::stats_socket::read_stats_socket;
-use crate::{IgnoredWords, Section, Setting, Statement, Timeout};
+use crate::{IgnoredWords, Setting, Statement};
 use lb_config_arguments::{Fault, LineError, Words, is};
+use lb_config_keywords::{
+    CommonKeyword, OptionName, Section, Timeout, is_ignored, is_ignored_option, is_ignored_timeout,
+    is_left_out, read_bare_end, read_http_check, read_last_time, read_stats_socket, read_tuning,
+};
+
+/// How many connections of each `bind` may be served at a time (`tune.relays`).
+const MAX_RELAYS: u64 = 64;
+
+/// How many plans may be tried while the table changes (`tune.tries`).
+const MAX_TRIES: u64 = 1000;
+
+/// How many events a journal may keep (`tune.journal`).
+const MAX_JOURNAL: u64 = 1_000_000;
 
 /// A line whose first word is none of a proxy's own.
 #[tactic(auto, unfolding(crate::specs::Lines::common_line_at))]
@@ -53,9 +60,9 @@ fn read_common_statement(
         CommonKeyword::Timeout => return read_timeout(section, words),
         CommonKeyword::Option => return read_option(section, words),
         CommonKeyword::Stats => return read_stats(section, words),
-        CommonKeyword::Relays => Setting::Relays(read_tuning(1, 64, words)? as u8),
-        CommonKeyword::Tries => Setting::Tries(read_tuning(1, 1000, words)? as u16),
-        CommonKeyword::Journal => Setting::Journal(read_tuning(1, 1000000, words)? as u32),
+        CommonKeyword::Relays => Setting::Relays(read_tuning(1, MAX_RELAYS, words)? as u8),
+        CommonKeyword::Tries => Setting::Tries(read_tuning(1, MAX_TRIES, words)? as u16),
+        CommonKeyword::Journal => Setting::Journal(read_tuning(1, MAX_JOURNAL, words)? as u32),
     };
     Ok(Statement::Setting(setting))
 }

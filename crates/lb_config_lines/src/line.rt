@@ -2,14 +2,15 @@ ghost use Rattle.lb_config_arguments.specs.Faults.{Gives, Takes};
 ghost use Rattle.lb_config_lines.specs.Lines.{section_name_at, header_at, line_at, statement_in, proxy_setting_at, server_setting_at, section_line_at, server_line_at};
 
 use crate::common_line::read_common_line;
-use crate::ignored::is_left_out_section;
-use crate::keyword::{ProxyKeyword, ServerKeyword};
-use crate::setting_lines::{read_balance, read_bind, read_default_backend, read_mode, read_stick};
-use crate::{Header, Section, Setting, Statement};
+use crate::stick::read_stick;
+use crate::{Header, Setting, Statement};
 use lb_config_arguments::{Fault, LineError, Words, is, read_name};
 use lb_config_conditions::{read_backend_rule, read_cost_rule, read_declaration, read_server_rule};
-use lb_config_server::{read_default_server, read_server};
-use lb_config_table::read_stick_table;
+use lb_config_keywords::{
+    ProxyKeyword, Section, ServerKeyword, is_left_out_section, read_balance, read_bind,
+    read_default_backend, read_mode,
+};
+use lb_config_parameters::{read_default_server, read_server, read_stick_table};
 use lb_config_words::{SpellingFault, Word};
 use lb_types::Name;
 use std::alloc::Global;

@@ -1,36 +1,9 @@
-use crate::{HttpCheck, StatsSocket};
 use lb_acl::KeySample;
 use lb_config_arguments::Endpoint;
 use lb_config_conditions::{AclDeclaration, BackendRule, CostRule, ServerRule};
-use lb_config_server::{ServerLine, ServerOptions};
-use lb_config_table::StickTable;
+use lb_config_keywords::{Balance, HttpCheck, StatsSocket, Timeout};
+use lb_config_parameters::{ServerLine, ServerOptions, StickTable};
 use lb_types::Name;
-
-/// How a server is picked for a request that wants none.
-#[derive(Clone, Copy, Debug, PartialEq, Eq)]
-pub enum Balance {
-    /// `roundrobin`.
-    RoundRobin,
-    /// `leastconn`.
-    LeastConnections,
-    /// `first`.
-    First,
-}
-
-/// What a time limits.
-#[derive(Clone, Copy, Debug, PartialEq, Eq)]
-pub enum Timeout {
-    /// `client`: one read from a client.
-    Client,
-    /// `connect`: a dial.
-    Connect,
-    /// `server`: one read from a server.
-    Server,
-    /// `queue`: how long a request waits for a connection.
-    Queue,
-    /// `check`: one whole probe.
-    Check,
-}
 
 /// What a line sets. Names of backends, servers and ACLs are not yet looked up.
 #[derive(Debug, Drop)]

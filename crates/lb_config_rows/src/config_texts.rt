@@ -1,7 +1,6 @@
 use lb_acl::{Head, Version, designated, pin_cost};
 use lb_config::{Config, FindFault, read_config};
 use lb_config_lines::{Balance, SocketAddress};
-use lb_config_sections::ConfigFault;
 use lb_types::{Name, ServerId};
 use std::alloc::Global;
 use std::net::Ipv4Addr;
@@ -26,46 +25,65 @@ fn head(method: &str) -> Head<'_> {
     )
 }
 
+/// Whether the commands' socket is at this path, or is none.
+fn is_at(config: &Config, wanted: Option<&[u8]>) -> bool {
+    match (config.socket(), wanted) {
+        (Some(SocketAddress::Path(path)), Some(wanted)) => path.as_bytes() == wanted,
+        (None, None) => true,
+        _ => false,
+    }
+}
+
 #[test]
-fn two_servers_and_a_table(rt: HostRuntime) -> Result<(), Fail> {
+fn a_backend_with_a_table_and_the_whole_program(rt: HostRuntime) -> Result<(), Fail> {
     let text =
         b"backend web\n  stick-table type string size 10\n  stick on hdr(x-id)\n  server a 127.0.0.1:8001 check maxpins 5\n  server b 127.0.0.1:8002 check\n";
-    let config = config(&rt, rt.alloc(), text);
-    assert_eq!(rt; config.frontends().len(), 0);
-    assert_eq!(rt; (config.relays(), config.tries()), (8, 8));
-    assert!(rt; config.socket().is_none());
-    let Some(web) = config.backends().first() else {
+    let table = config(&rt, rt.alloc(), text);
+    let Some(web) = table.backends().first() else {
         panic!(&rt; "no backend");
     };
-    assert_eq!(rt; web.name().as_bytes(), b"web".as_slice());
-    assert_eq!(rt; web.balance(), Balance::RoundRobin);
-    assert_eq!(rt; web.journal(), 100000);
-    assert!(rt; !web.all_backups() && !web.evacuate() && !web.forward_for());
-    assert!(rt; web.rules().table().is_some() && web.rules().stick_on().is_some());
     let (Some(a), Some(b)) = (web.servers().first(), web.servers().last()) else {
         panic!(&rt; "no servers");
     };
+    let is_so = table.frontends().is_empty()
+        && (table.relays(), table.tries()) == (8, 8)
+        && is_at(&table, None)
+        && web.name().as_bytes() == b"web".as_slice()
+        && (web.balance(), web.journal()) == (Balance::RoundRobin, 100000);
+    assert!(rt; is_so);
+    assert!(rt; !web.all_backups() && !web.evacuate() && !web.forward_for());
     // Without `maxpins` a server may hold the whole table.
-    assert_eq!(rt; (a.settings().max_pins, b.settings().max_pins), (5, 10));
-    assert_eq!(rt; web.connect_limit(), None);
-    assert_eq!(rt; web.probe_limit(a), Some(2000));
+    let is_so = web.rules().table().is_some()
+        && web.rules().stick_on().is_some()
+        && (a.settings().max_pins, b.settings().max_pins) == (5, 10)
+        && (web.connect_limit(), web.probe_limit(a)) == (None, Some(2000));
+    assert!(rt; is_so);
+    let text =
+        b"global\nlog 127.0.0.1 local0\ntune.journal 2\nbackend web\nglobal\ntune.relays 3\nstats socket /run/lb level admin\n";
+    let whole = config(&rt, rt.alloc(), text);
+    let is_so = (whole.relays(), whole.tries(), whole.warnings().len()) == (3, 8, 2)
+        && is_at(&whole, Some(b"/run/lb"))
+        && matches!(whole.backends().first(), Some(web) if web.journal() == 2);
+    assert!(rt; is_so);
     Ok(())
 }
+
+/// Of each backend its balance, whether it has `forwardfor`, its limit of servers, and the weight of its first server.
+const DEFAULTS: [(Balance, bool, Option<u32>, u16); 5] = [
+    (Balance::RoundRobin, false, None, 0),
+    (Balance::First, true, Some(7), 9),
+    (Balance::LeastConnections, true, Some(7), 0),
+    (Balance::First, true, Some(7), 0),
+    (Balance::RoundRobin, false, None, 1),
+];
 
 #[test]
 fn defaults_reach_up_to_the_next_ones(rt: HostRuntime) -> Result<(), Fail> {
     let text =
         b"backend a\ndefaults\nbalance first\ntimeout client 5s\ntimeout server 7\noption forwardfor\ndefault-server weight 9\nbackend b\nserver s 1.2.3.4:1\nbackend c\nbalance leastconn\nlisten l\nbind :80\ndefaults\ntimeout client 6s\nfrontend f\nbackend d\nserver s 1.2.3.4:1\n";
     let config = config(&rt, rt.alloc(), text);
-    let wanted = [
-        (Balance::RoundRobin, false, None, 0),
-        (Balance::First, true, Some(7), 9),
-        (Balance::LeastConnections, true, Some(7), 0),
-        (Balance::First, true, Some(7), 0),
-        (Balance::RoundRobin, false, None, 1),
-    ];
-    assert_eq!(rt; config.backends().len(), wanted.len());
-    for (backend, wanted) in config.backends().iter().zip(wanted.iter()) {
+    let count = config.backends().len();
+    for (backend, wanted) in config.backends().iter().zip(DEFAULTS.iter()) {
         let weight = match backend.servers().first() {
             Some(server) => server.settings().weight,
             None => 0,
@@ -77,106 +95,93 @@ fn defaults_reach_up_to_the_next_ones(rt: HostRuntime) -> Result<(), Fail> {
             weight,
         );
         let name = backend.name();
-        assert_eq!(rt; found, *wanted, "of {name:?}");
+        assert_eq!(rt; (count, found), (5, *wanted), "of {name:?}");
     }
     let (Some(l), Some(f)) = (config.frontends().first(), config.frontends().last()) else {
         panic!(&rt; "no frontends");
     };
-    assert_eq!(rt; (l.client_limit(), l.forward_for()), (Some(5000), true));
-    assert_eq!(rt; (f.client_limit(), f.forward_for()), (Some(6000), false));
+    let found = (
+        l.client_limit(),
+        l.forward_for(),
+        f.client_limit(),
+        f.forward_for(),
+    );
+    assert_eq!(rt; found, (Some(5000), true, Some(6000), false));
     Ok(())
 }
 
+/// Of each frontend the backend of a GET and of a PUT.
+const CHOSEN: [(Option<usize>, Option<usize>); 4] = [
+    (Some(0), Some(2)),
+    (Some(2), Some(2)),
+    (Some(0), None),
+    (Some(2), Some(1)),
+];
+
 #[test]
-fn requests_go_to_their_backends(rt: HostRuntime) -> Result<(), Fail> {
+fn requests_go_to_their_backends_and_rules_know_their_servers(rt: HostRuntime) -> Result<(), Fail> {
     let text =
         b"listen own\nuse_backend b if { method PUT }\nlisten other\ndefault_backend b\nfrontend none\nuse_backend own if { method GET }\nfrontend f\nuse_backend b if get\nuse_backend own if get\nacl get method GET\ndefault_backend other\nbackend b\n";
-    let config = config(&rt, rt.alloc(), text);
-    let wanted = [
-        (Some(0), Some(2)),
-        (Some(2), Some(2)),
-        (Some(0), None),
-        (Some(2), Some(1)),
-    ];
-    assert_eq!(rt; config.frontends().len(), wanted.len());
-    for (frontend, wanted) in config.frontends().iter().zip(wanted.iter()) {
+    let chosen = config(&rt, rt.alloc(), text);
+    let count = chosen.frontends().len();
+    for (frontend, wanted) in chosen.frontends().iter().zip(CHOSEN.iter()) {
         let found = (
             frontend.backend_of(&head("GET")),
             frontend.backend_of(&head("PUT")),
         );
         let name = frontend.name();
-        assert_eq!(rt; found, *wanted, "of {name:?}");
+        assert_eq!(rt; (count, found), (4, *wanted), "of {name:?}");
     }
-    Ok(())
-}
-
-#[test]
-fn rules_know_their_servers(rt: HostRuntime) -> Result<(), Fail> {
     let text =
         b"backend web\nuse-server b if { method GET }\nuse-server a if { method GET HEAD }\npin-cost 20 unless { method GET }\nserver a 1.2.3.4:1\nserver b 1.2.3.4:2\n";
-    let config = config(&rt, rt.alloc(), text);
-    let Some(web) = config.backends().first() else {
+    let ruled = config(&rt, rt.alloc(), text);
+    let Some(web) = ruled.backends().first() else {
         panic!(&rt; "no backend");
     };
     let both = [ServerId::new(1), ServerId::new(0)];
     let servers = designated(rt.alloc(), web.rules().use_servers(), &head("GET"))?;
-    assert_eq!(rt; servers.as_slice(), both.as_slice());
-    assert_eq!(rt; pin_cost(web.rules().pin_costs(), &head("GET")), 1);
-    assert_eq!(rt; pin_cost(web.rules().pin_costs(), &head("HEAD")), 20);
+    let costs = web.rules().pin_costs();
+    let is_so = servers.as_slice() == both.as_slice()
+        && (
+            pin_cost(costs, &head("GET")),
+            pin_cost(costs, &head("HEAD")),
+        ) == (1, 20);
+    assert!(rt; is_so);
     Ok(())
 }
 
-#[test]
-fn the_whole_program(rt: HostRuntime) -> Result<(), Fail> {
-    let text =
-        b"global\nlog 127.0.0.1 local0\ntune.journal 2\nbackend web\nglobal\ntune.relays 3\nstats socket /run/lb level admin\n";
-    let config = config(&rt, rt.alloc(), text);
-    assert_eq!(rt; (config.relays(), config.tries()), (3, 8));
-    assert_eq!(rt; config.warnings().len(), 2);
-    match config.socket() {
-        Some(SocketAddress::Path(path)) => {
-            assert_eq!(rt; path.as_bytes(), b"/run/lb".as_slice());
-        }
-        _ => panic!(&rt; "no path"),
-    }
-    match config.backends().first() {
-        Some(web) => assert_eq!(rt; web.journal(), 2),
-        None => panic!(&rt; "no backend"),
-    }
-    Ok(())
-}
+/// A text, and the limits of a dial, of the queue and of a check.
+const LIMITS: [(&[u8], Option<u32>, Option<u32>, Option<u32>); 5] = [
+    (b"backend w\nserver a 1.2.3.4:1", None, None, Some(2000)),
+    (
+        b"backend w\ntimeout connect 3s\nserver a 1.2.3.4:1 inter 5",
+        Some(3000),
+        Some(3000),
+        Some(5),
+    ),
+    (
+        b"backend w\ntimeout connect 0\ntimeout check 0\nserver a 1.2.3.4:1 inter 0",
+        None,
+        None,
+        None,
+    ),
+    (
+        b"backend w\ntimeout connect 1\ntimeout queue 0\nserver a 1.2.3.4:1",
+        Some(1),
+        Some(0),
+        Some(2000),
+    ),
+    (
+        b"backend w\ntimeout queue 4\ntimeout check 6\nserver a 1.2.3.4:1",
+        None,
+        Some(4),
+        Some(6),
+    ),
+];
 
 #[test]
 fn limits_of_times(rt: HostRuntime) -> Result<(), Fail> {
-    // The text, then the limits of a dial, of the queue and of a check.
-    let cases: [(&[u8], Option<u32>, Option<u32>, Option<u32>); 5] = [
-        (b"backend w\nserver a 1.2.3.4:1", None, None, Some(2000)),
-        (
-            b"backend w\ntimeout connect 3s\nserver a 1.2.3.4:1 inter 5",
-            Some(3000),
-            Some(3000),
-            Some(5),
-        ),
-        (
-            b"backend w\ntimeout connect 0\ntimeout check 0\nserver a 1.2.3.4:1 inter 0",
-            None,
-            None,
-            None,
-        ),
-        (
-            b"backend w\ntimeout connect 1\ntimeout queue 0\nserver a 1.2.3.4:1",
-            Some(1),
-            Some(0),
-            Some(2000),
-        ),
-        (
-            b"backend w\ntimeout queue 4\ntimeout check 6\nserver a 1.2.3.4:1",
-            None,
-            Some(4),
-            Some(6),
-        ),
-    ];
-    for (text, connect, queue, check) in cases {
+    for (text, connect, queue, check) in LIMITS {
         let config = config(&rt, rt.alloc(), text);
         let Some(backend) = config.backends().first() else {
             panic!(&rt; "no backend");
@@ -184,9 +189,12 @@ fn limits_of_times(rt: HostRuntime) -> Result<(), Fail> {
         let Some(server) = backend.servers().first() else {
             panic!(&rt; "no server");
         };
-        assert_eq!(rt; backend.connect_limit(), connect, "{text:?}");
-        assert_eq!(rt; backend.queue_limit(), queue, "{text:?}");
-        assert_eq!(rt; backend.probe_limit(server), check, "{text:?}");
+        let found = (
+            backend.connect_limit(),
+            backend.queue_limit(),
+            backend.probe_limit(server),
+        );
+        assert_eq!(rt; found, (connect, queue, check), "{text:?}");
     }
     Ok(())
 }
@@ -202,35 +210,27 @@ fn names_are_found(rt: HostRuntime) -> Result<(), Fail> {
         Name::read(b"b")?,
     ];
     let f = Name::read(b"f")?;
-    assert_eq!(rt; config.find_backend(&web), Ok(0));
-    assert_eq!(rt; config.find_backend(&shop), Ok(1));
-    assert_eq!(rt; config.find_backend(&f), Err(FindFault::NoBackend));
-    assert_eq!(rt; config.find(&web, &b), Ok((0, ServerId::new(1))));
-    assert_eq!(rt; config.find(&shop, &a), Err(FindFault::NoSuchServer));
-    assert_eq!(rt; config.find(&f, &a), Err(FindFault::NoBackend));
-    assert_eq!(rt; FindFault::NoBackend.number(), 103);
-    assert_eq!(rt; FindFault::NoSuchServer.number(), 10);
-    Ok(())
-}
-
-#[test]
-fn the_first_fault_is_told(rt: HostRuntime) -> Result<(), Fail> {
-    let cases: [(&[u8], u32, u16); 3] = [
-        (b"backend web\nbalance uri", 2, 29),
-        (b"frontend f\ndefault_backend web", 2, 27),
-        (b"backend web\nstick on src", 2, 23),
+    let backends = [
+        config.find_backend(&web),
+        config.find_backend(&shop),
+        config.find_backend(&f),
     ];
-    for (text, line, number) in cases {
-        match read_config(rt.alloc(), text) {
-            Err(ConfigFault::Fault(fault)) => {
-                assert_eq!(rt;
-                    (fault.line, fault.cause.number()),
-                    (line, number),
-                    "{text:?}"
-                );
-            }
-            _ => panic!(&rt; "no fault in {text:?}"),
-        }
-    }
+    assert_eq!(rt; backends, [Ok(0), Ok(1), Err(FindFault::NoBackend)]);
+    let found = [
+        config.find(&web, &b),
+        config.find(&shop, &a),
+        config.find(&f, &a),
+    ];
+    let wanted = [
+        Ok((0, ServerId::new(1))),
+        Err(FindFault::NoSuchServer),
+        Err(FindFault::NoBackend),
+    ];
+    assert_eq!(rt; found, wanted);
+    let numbers = (
+        FindFault::NoBackend.number(),
+        FindFault::NoSuchServer.number(),
+    );
+    assert_eq!(rt; numbers, (103, 10));
     Ok(())
 }

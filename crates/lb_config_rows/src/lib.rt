@@ -1,9 +1,16 @@
-//! Configurations read from texts: what their sections, their `defaults` and the manual's defaults make of them.
+//! Configurations read from texts: their sections or their first fault, and what their sections, their `defaults` and the manual's
+//! defaults make of them.
 //!
-//! Tests alone, which cross the reading of a text, `lb_config`, and the answers of conditions.
+//! Tests alone, of `lb_config`, `lb_config_sections`, `_values` and `_rules`, which cross the answers of conditions.
 #![tactic(auto)]
 
 #[cfg(test)]
 mod config_texts;
+#[cfg(test)]
+mod rules;
+#[cfg(test)]
+mod sections;
+#[cfg(test)]
+mod values;
 #[cfg(test)]
 mod web_farm;

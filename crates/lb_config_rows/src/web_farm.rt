@@ -1,4 +1,4 @@
-use check_rule::CheckRequest;
+use check_workers_rule::CheckRequest;
 use lb_acl::{Field, Head, KeyLen, TableType, Version, designated, pin_cost, pin_key};
 use lb_config::{BackendConfig, Config, read_config};
 use lb_config_lines::{Balance, SocketAddress};
@@ -129,80 +129,81 @@ fn head<'a>(
     )
 }
 
-#[test]
-fn the_process(rt: HostRuntime) -> Result<(), Fail> {
-    let config = web_farm(&rt, rt.alloc());
-    assert_eq!(rt; (config.relays(), config.tries()), (16, 8));
-    assert_eq!(rt; config.warnings().len(), 0);
-    match config.socket() {
-        Some(SocketAddress::Path(path)) => {
-            assert_eq!(rt; path.as_bytes(), b"/run/stickylb.sock".as_slice());
-        }
-        _ => panic!(&rt; "no path"),
-    }
-    for backend in config.backends() {
-        assert_eq!(rt; backend.journal(), 200000);
-        assert_eq!(rt; backend.connect_limit(), Some(3000));
-        assert_eq!(rt; backend.queue_limit(), Some(5000));
-        assert!(rt; backend.forward_for() && !backend.all_backups());
-    }
-    Ok(())
-}
+/// Requests, who sends them, and the backend that they go to.
+const REQUESTS: [(&str, &str, [u8; 4], usize); 9] = [
+    ("GET", "/", ELSEWHERE, PAGES),
+    ("GET", "/api/basket?x=1", ELSEWHERE, API),
+    ("POST", "/api", ELSEWHERE, PAGES),
+    ("GET", "/big.JPG?width=9", ELSEWHERE, PICTURES),
+    ("POST", "/big.jpg", ELSEWHERE, PAGES),
+    ("HEAD", "/api/a.png", ELSEWHERE, API),
+    ("GET", "/staff", ELSEWHERE, CLOSED),
+    ("GET", "/staff", OFFICE, PAGES),
+    ("GET", "/staff/a.webp", OFFICE, PICTURES),
+];
 
 #[test]
-fn requests_go_to_their_backends(rt: HostRuntime) -> Result<(), Fail> {
+fn the_process_and_the_backends_of_requests(rt: HostRuntime) -> Result<(), Fail> {
     let config = web_farm(&rt, rt.alloc());
+    let has_path = match config.socket() {
+        Some(SocketAddress::Path(path)) => path.as_bytes() == b"/run/stickylb.sock".as_slice(),
+        _ => false,
+    };
+    assert!(rt;
+        has_path && (config.relays(), config.tries(), config.warnings().len()) == (16, 8, 0)
+    );
+    for backend in config.backends() {
+        let found = (
+            backend.journal(),
+            backend.connect_limit(),
+            backend.queue_limit(),
+        );
+        let is_so = found == (200000, Some(3000), Some(5000))
+            && backend.forward_for()
+            && !backend.all_backups();
+        assert!(rt; is_so);
+    }
     let (Some(shop), Some(tools)) = (config.frontends().first(), config.frontends().last()) else {
         panic!(&rt; "no frontends");
     };
-    assert_eq!(rt; (config.frontends().len(), config.backends().len()), (2, 5));
-    assert_eq!(rt; shop.rules().binds().len(), 2);
-    assert_eq!(rt; shop.client_limit(), Some(30000));
-    let cases = [
-        ("GET", "/", ELSEWHERE, PAGES),
-        ("GET", "/api/basket?x=1", ELSEWHERE, API),
-        ("POST", "/api", ELSEWHERE, PAGES),
-        ("GET", "/big.JPG?width=9", ELSEWHERE, PICTURES),
-        ("POST", "/big.jpg", ELSEWHERE, PAGES),
-        ("HEAD", "/api/a.png", ELSEWHERE, API),
-        ("GET", "/staff", ELSEWHERE, CLOSED),
-        ("GET", "/staff", OFFICE, PAGES),
-        ("GET", "/staff/a.webp", OFFICE, PICTURES),
-    ];
-    for (method, target, source, wanted) in cases {
+    let found = (
+        config.frontends().len(),
+        config.backends().len(),
+        shop.rules().binds().len(),
+        shop.client_limit(),
+    );
+    assert_eq!(rt; found, (2, 5, 2, Some(30000)));
+    for (method, target, source, wanted) in REQUESTS {
         let head = head(method, target, &[], source);
-        assert_eq!(rt; shop.backend_of(&head), Some(wanted), "{target}");
-        assert_eq!(rt; tools.backend_of(&head), Some(TOOLS), "{target}");
+        let found = (shop.backend_of(&head), tools.backend_of(&head));
+        assert_eq!(rt; found, (Some(wanted), Some(TOOLS)), "{target}");
     }
     Ok(())
 }
 
+/// Of each server of the pages what the configuration gives to pins, its weight, and whether it stands by.
+const SERVERS: [(u32, u16, bool); 5] = [
+    (200000, 1, false),
+    (200000, 1, false),
+    (200000, 2, false),
+    (50000, 1, false),
+    (1048576, 1, true),
+];
+
 #[test]
-fn servers_of_the_pages(rt: HostRuntime) -> Result<(), Fail> {
+fn servers_of_the_pages_and_of_the_others(rt: HostRuntime) -> Result<(), Fail> {
     let config = web_farm(&rt, rt.alloc());
     let pages = backend(&rt, &config, PAGES);
-    assert_eq!(rt; pages.balance(), Balance::RoundRobin);
-    assert!(rt; pages.evacuate());
-    // Of each server what the configuration gives to pins, its weight, and whether it stands by.
-    let wanted = [
-        (200000, 1, false),
-        (200000, 1, false),
-        (200000, 2, false),
-        (50000, 1, false),
-        (1048576, 1, true),
-    ];
-    assert_eq!(rt; pages.servers().len(), wanted.len());
-    for (server, wanted) in pages.servers().iter().zip(wanted.iter()) {
+    let found = (pages.balance(), pages.evacuate(), pages.servers().len());
+    assert_eq!(rt; found, (Balance::RoundRobin, true, 5));
+    for (server, wanted) in pages.servers().iter().zip(SERVERS.iter()) {
         let settings = server.settings();
         let found = (settings.max_pins, settings.weight, settings.backup);
-        assert_eq!(rt; found, *wanted);
-        assert_eq!(rt; settings.admin, AdminState::Ready);
-        assert_eq!(rt; settings.max_connections, 400);
-        assert_eq!(rt; settings.check, Some(CheckSettings { rise: 2, fall: 3 }));
-        assert_eq!(rt;
-            (server.interval(), pages.probe_limit(server)),
-            (2000, Some(2000))
-        );
+        let is_so = found == *wanted
+            && (settings.admin, settings.max_connections) == (AdminState::Ready, 400)
+            && settings.check == Some(CheckSettings { rise: 2, fall: 3 })
+            && (server.interval(), pages.probe_limit(server)) == (2000, Some(2000));
+        assert!(rt; is_so);
     }
     let Some(first) = pages.servers().first() else {
         panic!(&rt; "no servers");
@@ -212,35 +213,34 @@ fn servers_of_the_pages(rt: HostRuntime) -> Result<(), Fail> {
         fields: b"Host: 10.20.1.11:8080\r\n\r\n",
     };
     assert!(rt; first.check_rule().request() == Some(request));
-    Ok(())
-}
-
-#[test]
-fn servers_of_the_others(rt: HostRuntime) -> Result<(), Fail> {
-    let config = web_farm(&rt, rt.alloc());
     let api = backend(&rt, &config, API);
-    assert_eq!(rt; api.balance(), Balance::LeastConnections);
     let Some(last) = api.servers().last() else {
         panic!(&rt; "no servers");
     };
-    assert_eq!(rt; last.settings().admin, AdminState::Maint);
-    assert_eq!(rt; last.settings().max_pins, 102400);
+    let found = (
+        api.balance(),
+        last.settings().admin,
+        last.settings().max_pins,
+    );
+    assert_eq!(rt;
+        found,
+        (Balance::LeastConnections, AdminState::Maint, 102400)
+    );
     let request = CheckRequest {
         line: b"HEAD /v2/up HTTP/1.0\r\n",
         fields: b"\r\n",
     };
     assert!(rt; last.check_rule().request() == Some(request));
     let pictures = backend(&rt, &config, PICTURES);
-    assert_eq!(rt;
-        (api.server_limit(), pictures.server_limit()),
-        (Some(30000), Some(10000))
-    );
+    let closed = backend(&rt, &config, CLOSED).servers().len();
+    let found = (api.server_limit(), pictures.server_limit(), closed);
+    assert_eq!(rt; found, (Some(30000), Some(10000), 0));
     for server in pictures.servers() {
         let settings = server.settings();
-        assert_eq!(rt; (settings.max_connections, settings.max_pins), (2000, 0));
-        assert!(rt; server.check_rule().request().is_none());
+        let is_so = (settings.max_connections, settings.max_pins) == (2000, 0)
+            && server.check_rule().request().is_none();
+        assert!(rt; is_so);
     }
-    assert!(rt; backend(&rt, &config, CLOSED).servers().is_empty());
     Ok(())
 }
 
@@ -262,13 +262,14 @@ fn tables_keys_and_rules(rt: HostRuntime) -> Result<(), Fail> {
         let Some(table) = backend(&rt, &config, place).rules().table() else {
             panic!(&rt; "no table");
         };
-        assert_eq!(rt; (table.kind(), table.size()), (kind, size));
-        assert_eq!(rt;
-            (table.expire(), table.is_nopurge()),
-            (Some(expire), is_nopurge)
+        let found = (
+            table.kind(),
+            table.size(),
+            table.expire(),
+            table.is_nopurge(),
         );
+        assert_eq!(rt; found, (kind, size, Some(expire), is_nopurge));
     }
-    assert!(rt; backend(&rt, &config, PICTURES).rules().table().is_none());
     let fields = [
         Field::new(b"Cookie", b"a=1; shop_session=s7"),
         Field::new(b"X-Preview", b"no, yes"),
@@ -277,13 +278,15 @@ fn tables_keys_and_rules(rt: HostRuntime) -> Result<(), Fail> {
     let rules = backend(&rt, &config, PAGES).rules();
     let wanted = [ServerId::new(3)];
     let servers = designated(rt.alloc(), rules.use_servers(), &visit)?;
-    assert_eq!(rt; servers.as_slice(), wanted.as_slice());
     let Some(stick_on) = rules.stick_on() else {
         panic!(&rt; "no key");
     };
-    assert!(rt; pin_key(rt.alloc(), stick_on, &visit)?.is_some());
     let costs = backend(&rt, &config, API).rules().pin_costs();
-    assert_eq!(rt; pin_cost(costs, &visit), 20);
-    assert_eq!(rt; pin_cost(costs, &head("GET", "/", &[], OFFICE)), 1);
+    let office = head("GET", "/", &[], OFFICE);
+    let is_so = servers.as_slice() == wanted.as_slice()
+        && pin_key(rt.alloc(), stick_on, &visit)?.is_some()
+        && (pin_cost(costs, &visit), pin_cost(costs, &office)) == (20, 1)
+        && backend(&rt, &config, PICTURES).rules().table().is_none();
+    assert!(rt; is_so);
     Ok(())
 }

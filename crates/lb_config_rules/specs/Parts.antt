@@ -10,7 +10,7 @@ use Rattle.lb_config_conditions.specs.declared.rules.ServerRule.{ServerRule}
 use Rattle.lb_config_lines.specs.declared.setting.Setting.{Setting}
 use Rattle.lb_config_lines.specs.declared.setting.Setting.TheVariants as Set
 use Rattle.lb_config_sections.specs.declared.config_section.NumberedSetting.{NumberedSetting}
-use Rattle.lb_config_table.specs.TableViews.{StickTableView}
+use Rattle.lb_config_parameters.specs.TableViews.{StickTableView}
 use Rattle.lb_config_rules.specs.PartsView.{PartsView}
 
 abbrev pub acl_in : Setting → Option AclDeclaration

@@ -5,7 +5,7 @@ use Rattle.lb_config_conditions.specs.CostRuleView.{CostRuleView}
 use Rattle.lb_config_conditions.specs.declared.rules.AclDeclaration.{AclDeclaration}
 use Rattle.lb_config_conditions.specs.declared.rules.BackendRule.{BackendRule}
 use Rattle.lb_config_conditions.specs.declared.rules.ServerRule.{ServerRule}
-use Rattle.lb_config_table.specs.TableViews.{StickTableView}
+use Rattle.lb_config_parameters.specs.TableViews.{StickTableView}
 
 -- the lines of each kind in their order; of `stick-table` and of `stick on` the last one
 pub record PartsView : Type 0 where

@@ -5,6 +5,7 @@ use Rattle.std.specs.Prelude.{ℕ, List, [], ◌∷◌, nat_lt, map, position, O
 use Rattle.std.specs.List.{filter_map}
 use Rattle.std.specs.Option.{option_map}
 use Rattle.std.specs.Str.{bytes_eq}
+use Rattle.lb_types.specs.declared.limits.TheConstants.{MAX_SERVERS}
 use Rattle.lb_acl.specs.CondView.{CondView}
 use Rattle.lb_acl.specs.PinCostView.{PinCostView}
 use Rattle.lb_acl.specs.TermView.{TermView}
@@ -21,7 +22,7 @@ use Rattle.lb_config_conditions.specs.declared.unresolved.UnresolvedAcl.{Unresol
 use Rattle.lb_config_conditions.specs.declared.unresolved.UnresolvedAcl.TheVariants.{Named, Anonymous}
 use Rattle.lb_config_conditions.specs.declared.unresolved.UnresolvedTerm.{UnresolvedTerm}
 use Rattle.lb_config_sections.specs.declared.config_section.NumberedSetting.{NumberedSetting}
-use Rattle.lb_config_table.specs.TableViews.{StickTableView}
+use Rattle.lb_config_parameters.specs.TableViews.{StickTableView}
 use Rattle.lb_config_rules.specs.declared.backend_choice.BackendChoice.{BackendChoice}
 use Rattle.lb_config_rules.specs.Parts.{all_in, bind_in, parts_of}
 use Rattle.lb_config_rules.specs.PartsView.{PartsView}
@@ -57,7 +58,7 @@ place_of names name = position (λ other. bytes_eq other name) names
 -- a place that a server may have: one of at most 128
 abbrev pub within_limit : Option ℕ → Option ℕ
 within_limit None = None
-within_limit (Some place) = if nat_lt place 128 then Some place else None
+within_limit (Some place) = if nat_lt place MAX_SERVERS then Some place else None
 
 -- the server of the name
 abbrev pub server_place : List (List ℕ) → List ℕ → Option ℕ

@@ -4,7 +4,7 @@ use Rattle.lb_acl.specs.PinCostView.{PinCostView}
 use Rattle.lb_acl.specs.declared.key.StickOn.{StickOn}
 use Rattle.lb_acl.specs.declared.rules.UseServer.{UseServer}
 use Rattle.lb_config_arguments.specs.declared.address.Endpoint.{Endpoint}
-use Rattle.lb_config_table.specs.TableViews.{StickTableView}
+use Rattle.lb_config_parameters.specs.TableViews.{StickTableView}
 use Rattle.lb_config_rules.specs.declared.backend_choice.BackendChoice.{BackendChoice}
 
 -- towards clients: where it listens, and which backends its requests go to

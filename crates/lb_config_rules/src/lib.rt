@@ -2,7 +2,7 @@
 //! backends and servers.
 //!
 //! Promised: `read_rules` gives exactly what `specs/Rules` defines, and `chosen` takes the first rule `use_backend` that applies.
-//! Rules that name one ACL share its lines. Start at `read_rules`.
+//! Rules that name one ACL share its lines. Start at `read_rules`. Private to `lb_config`.
 #![tactic(auto)]
 
 mod backend_choice;

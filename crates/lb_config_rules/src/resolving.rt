@@ -10,7 +10,7 @@ use crate::conds::resolved;
 use crate::named_acls::NamedAcls;
 use lb_acl::{Cond, PinCost, UseServer};
 use lb_config_conditions::{BackendRule, CostRule, ServerRule, UnresolvedCond};
-use lb_types::{Name, ServerId};
+use lb_types::{MAX_SERVERS, Name, ServerId};
 use std::alloc::{AllocError, Global};
 
 /// The rules `use_backend` with the places of their backends.
@@ -96,7 +96,7 @@ fn server_place(servers: &[Name], name: &Name) -> Option<ServerId>
     ensures { result ≡ server_place servers.now name.now }
 {
     match place_of(servers, name) {
-        Some(place) if place < ServerId::LIMIT => Some(ServerId::new(place as u8)),
+        Some(place) if place < MAX_SERVERS => Some(ServerId::new(place as u8)),
         _ => None,
     }
 }

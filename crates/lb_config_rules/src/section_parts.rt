@@ -4,8 +4,8 @@ ghost use Rattle.lb_config_rules.specs.Parts.{no_parts, parts_behind, parts_of, 
 use lb_acl::KeySample;
 use lb_config_conditions::{AclDeclaration, BackendRule, CostRule, ServerRule};
 use lb_config_lines::Setting;
+use lb_config_parameters::StickTable;
 use lb_config_sections::NumberedSetting;
-use lb_config_table::StickTable;
 use std::alloc::{AllocError, Global};
 use std::marker::Model;
 

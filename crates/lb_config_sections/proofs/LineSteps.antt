@@ -7,18 +7,18 @@ use Rattle.lb_config_sections.specs.declared.cause.ConfigFault.{ConfigFault}
 use Rattle.lb_config_sections.specs.declared.cause.ConfigFault.TheVariants as faults
 use Rattle.lb_config_sections.specs.declared.cause.LocatedFault.{LocatedFault}
 use Rattle.lb_config_sections.specs.Causes.{Fails, ◌>>=◌}
-use Rattle.lb_config_sections.specs.DraftView.{DraftView}
-use Rattle.lb_config_sections.specs.Drafts.{take_line, lines_behind}
+use Rattle.lb_config_sections.specs.SectionsSoFarView.{SectionsSoFarView}
+use Rattle.lb_config_sections.specs.SectionsSoFar.{take_line, lines_behind}
 
 -- the next line, and those behind it
-pub line_at : (draft : DraftView) (lines : List LineView) (i : ℕ) (line : LineView) → i < length lines → line ≡ get_or lines i line →
+pub line_at : (draft : SectionsSoFarView) (lines : List LineView) (i : ℕ) (line : LineView) → i < length lines → line ≡ get_or lines i line →
     lines_behind draft (drop i lines) ≡ (take_line draft line >>= λ next. lines_behind next (drop (i + 1) lines))
 unfolding lines_behind
 line_at draft lines i line within is =
     at_drop_more (λ rest. lines_behind draft rest) lines i line within ∙ ap (λ first. lines_behind draft (first ∷ drop (i + 1) lines)) (sym is)
 
 -- no line is left
-pub lines_end : (draft : DraftView) (lines : List LineView) (i : ℕ) → length lines ≤ i → lines_behind draft (drop i lines) ≡ Ok draft
+pub lines_end : (draft : SectionsSoFarView) (lines : List LineView) (i : ℕ) → length lines ≤ i → lines_behind draft (drop i lines) ≡ Ok draft
 unfolding lines_behind
 lines_end draft lines i past = ap (λ rest. lines_behind draft rest) (drop_all i lines past)
 

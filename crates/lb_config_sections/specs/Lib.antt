@@ -1,7 +1,10 @@
 pub mod Causes
-pub mod DraftView
-pub mod Drafts
+pub mod Names
+pub mod References
+pub mod SectionNamesView
 pub mod SectionView
+pub mod SectionsSoFar
+pub mod SectionsSoFarView
 pub mod SectionsView
 pub mod TextSections
 pub mod Warnings

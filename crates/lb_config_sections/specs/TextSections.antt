@@ -8,7 +8,7 @@ use Rattle.lb_config_words.specs.Texts.{reading}
 use Rattle.lb_config_sections.specs.declared.cause.Cause.TheVariants as Of
 use Rattle.lb_config_sections.specs.declared.cause.LocatedFault.{LocatedFault}
 use Rattle.lb_config_sections.specs.Causes.{◌>>=◌}
-use Rattle.lb_config_sections.specs.Drafts.{sections_of}
+use Rattle.lb_config_sections.specs.SectionsSoFar.{sections_of}
 use Rattle.lb_config_sections.specs.SectionsView.{SectionsView}
 
 -- the fault of the whole text, with its line

@@ -1,9 +1,9 @@
 ghost use Rattle.std.specs.Prelude.{◌≡◌, IfOk};
 ghost use Rattle.lb_config_sections.specs.Causes.{line_cause, limit_cause};
 
-use lb_acl::Text;
 use lb_config_arguments::Fault;
 use lb_config_limits::LimitFault;
+use lb_config_words::Word;
 use std::alloc::{AllocError, AllocFailed, Global};
 use thiserror::Error;
 
@@ -29,7 +29,7 @@ pub enum Cause {
     /// 28: there are too many words, servers, backends, ACLs or rules, or the text is too long.
     TooMany,
     /// 29: the word, or the character, is one that this balancer leaves out.
-    LeftOut(Text),
+    LeftOut(Word),
 }
 
 impl Cause {
@@ -120,7 +120,7 @@ pub(crate) fn limit_cause(alloc: Global, fault: LimitFault) -> Result<Cause, All
         LimitFault::TooMany => Ok(Cause::TooMany),
         LimitFault::SecondStick => {
             let word = Vec::from_slice(alloc, b"stick")?;
-            Ok(Cause::LeftOut(Text::new(word)))
+            Ok(Cause::LeftOut(Word::new(word)))
         }
     }
 }

@@ -1,22 +1,23 @@
 //! A configuration as a list of sections, each with what its lines set, and the warnings of the lines that are ignored.
 //!
-//! Promised: `read_text` gives exactly what `specs/TextSections` defines: the lines from the first on, each judged behind those
-//! before it (`specs/Drafts`), up to the first fault. Names that one line uses and another declares are not looked up here. Start
-//! at `read_text`.
+//! Promised: `read_checked` gives exactly what `specs/References` defines: the lines from the first on, each judged behind those
+//! before it (`specs/SectionsSoFar`), up to the first fault; and where no line has one, the first name that no line declares.
+//! `read_text` is the same but for those names. Start at `read_checked`. Private to `lb_config` and to the job `check` of `lb_cli`.
 #![tactic(auto)]
 
 mod cause;
+mod checked;
 mod config_section;
-mod draft;
+mod names;
 mod sections;
+mod sections_so_far;
+mod setting_references;
 mod text;
 mod warning;
 
 pub use cause::{Cause, ConfigFault, LocatedFault};
+pub use checked::read_checked;
 pub use config_section::{ConfigSection, NumberedSetting};
 pub use sections::{Sections, read_sections};
 pub use text::read_text;
 pub use warning::Warning;
-
-#[cfg(test)]
-mod tests;

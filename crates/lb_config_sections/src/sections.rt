@@ -1,8 +1,8 @@
 ghost use Rattle.std.specs.Prelude.{◌≡◌};
 ghost use Rattle.lb_config_sections.specs.Causes.{Gives};
-ghost use Rattle.lb_config_sections.specs.Drafts.{lines_behind, no_lines, sections_of};
+ghost use Rattle.lb_config_sections.specs.SectionsSoFar.{lines_behind, no_lines, sections_of};
 
-use crate::draft::Draft;
+use crate::sections_so_far::SectionsSoFar;
 use crate::{ConfigFault, ConfigSection, Warning};
 use lb_config_words::Line;
 use std::alloc::Global;
@@ -50,7 +50,7 @@ impl Sections {
 /// The sections of a configuration and the warnings of its lines, or its first fault: by line, and in a line from the left.
 ///
 /// One walk over the lines; the memory is that of the settings.
-#[tactic(auto, unfolding(crate::specs::Drafts::sections_of))]
+#[tactic(auto, unfolding(crate::specs::SectionsSoFar::sections_of))]
 pub fn read_sections(alloc: Global, lines: &[Line]) -> Result<Sections, ConfigFault>
     ensures { Gives (λ sections. sections) result (sections_of lines.now) }
 {
@@ -59,10 +59,10 @@ pub fn read_sections(alloc: Global, lines: &[Line]) -> Result<Sections, ConfigFa
     Ok(Sections { sections, warnings })
 }
 
-fn read_draft(alloc: Global, lines: &[Line]) -> Result<Draft, ConfigFault>
+fn read_draft(alloc: Global, lines: &[Line]) -> Result<SectionsSoFar, ConfigFault>
     ensures { Gives (λ draft. draft) result (lines_behind no_lines lines.now) }
 {
-    let mut draft = Draft::new(alloc);
+    let mut draft = SectionsSoFar::new(alloc);
     for line in lines {
         draft.take_line(alloc, line)?;
     }

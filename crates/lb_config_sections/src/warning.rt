@@ -1,7 +1,6 @@
 ghost use Rattle.std.specs.Prelude.{◌≡◌, ◌++◌, IfOk, OnOk};
 ghost use Rattle.lb_config_sections.specs.Warnings.{second_text, ignored_text, warning_of};
 
-use lb_acl::Text;
 use lb_config_lines::IgnoredWords;
 use lb_config_words::{Line, Word};
 use std::alloc::{AllocError, Global};
@@ -12,7 +11,7 @@ pub struct Warning {
     /// The number of the line, counted from 1.
     pub line: u32,
     /// Its first word, or its first two with a space between them.
-    pub words: Text,
+    pub words: Word,
 }
 
 impl Warning {
@@ -29,7 +28,7 @@ impl Warning {
 
 /// The words that the warning names.
 #[tactic(auto, unfolding(crate::specs::Warnings::ignored_text))]
-fn ignored_text(alloc: Global, which: IgnoredWords, words: &[Word]) -> Result<Text, AllocError>
+fn ignored_text(alloc: Global, which: IgnoredWords, words: &[Word]) -> Result<Word, AllocError>
     ensures { IfOk result (λ text. text ≡ ignored_text which words.now) }
 {
     let mut text = Vec::new(alloc);
@@ -39,7 +38,7 @@ fn ignored_text(alloc: Global, which: IgnoredWords, words: &[Word]) -> Result<Te
             push_second(&mut text, rest)?;
         }
     }
-    Ok(Text::new(text))
+    Ok(Word::new(text))
 }
 
 /// Puts a space and the next word behind the text, if there is one.

@@ -2,9 +2,9 @@
 use Rattle.std.proofs.Common.{◌≡◌, ℕ, ◌+◌, ◌<◌, ◌≤◌, List, ◌∷◌, ◌++◌, length, get_or, drop, Option, sym, ap, ◌∙◌}
 use Rattle.std.specs.Option.{option_to_list}
 use Rattle.std.proofs.lemmas.List.{drop_all, at_drop_more, append_assoc, append-nil}
-use Rattle.check_rule.specs.CheckRequests.{CheckLine}
+use Rattle.check_workers_rule.specs.CheckRequests.{CheckLine}
 use Rattle.lb_config_sections.specs.declared.config_section.NumberedSetting.{NumberedSetting}
-use Rattle.lb_config_server.specs.OptionsView.{OptionsView}
+use Rattle.lb_config_parameters.specs.OptionsView.{OptionsView}
 use Rattle.lb_config_values.specs.ServerView.{ServerView}
 use Rattle.lb_config_values.specs.Servers.{server_in, servers_behind, with_default}
 

@@ -2,7 +2,7 @@
 use Rattle.std.proofs.Common.{◌≡◌, ℕ, Bool, true, false, ◌||◌, List, [], ◌∷◌, Option, Some, None, refl, sym, ap, ◌∙◌}
 use Rattle.lb_config_lines.specs.declared.setting.Setting.{Setting}
 use Rattle.lb_config_lines.specs.declared.setting.Setting.TheVariants as Set
-use Rattle.lb_config_lines.specs.declared.setting.Timeout.TheVariants as Time
+use Rattle.lb_config_keywords.specs.declared.second_word.Timeout.TheVariants as Time
 use Rattle.lb_config_sections.specs.declared.config_section.NumberedSetting.{NumberedSetting}
 use Rattle.lb_config_values.specs.GlobalsView.{GlobalsView}
 use Rattle.lb_config_values.specs.declared.proxy_values.ProxyValues.{ProxyValues}

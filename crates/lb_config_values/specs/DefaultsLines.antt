@@ -1,7 +1,7 @@
 -- What a `defaults` section says of the sections behind it: HAProxy Configuration Manual 2.8, section 4.
 use Rattle.std.specs.Prelude.{List, None}
 use Rattle.lb_config_sections.specs.declared.config_section.NumberedSetting.{NumberedSetting}
-use Rattle.lb_config_server.specs.Options.{no_options}
+use Rattle.lb_config_parameters.specs.Options.{no_options}
 use Rattle.lb_config_values.specs.Servers.{default_options}
 use Rattle.lb_config_values.specs.Values.{check_line_in, last_said, no_values, values_behind}
 use Rattle.lb_config_values.specs.declared.defaults.Defaults.{Defaults}

@@ -3,13 +3,13 @@
 -- server's own line goes before them.
 use Rattle.std.specs.Prelude.{ℕ, Bool, ◌||◌, List, [], ◌∷◌, ◌++◌, Option, Some, None, unwrap_or, if◌then◌else◌}
 use Rattle.std.specs.Option.{option_or, option_to_list}
-use Rattle.check_rule.specs.CheckRequests.{CheckLine, check_request}
+use Rattle.check_workers_rule.specs.CheckRequests.{CheckLine, check_request}
 use Rattle.lb_config_arguments.specs.declared.address.Endpoint.{Endpoint}
 use Rattle.lb_config_lines.specs.declared.setting.Setting.{Setting}
 use Rattle.lb_config_lines.specs.declared.setting.Setting.TheVariants as Set
 use Rattle.lb_config_sections.specs.declared.config_section.NumberedSetting.{NumberedSetting}
-use Rattle.lb_config_server.specs.OptionsView.{OptionsView}
-use Rattle.lb_config_server.specs.declared.server_line.ServerLine.{ServerLine}
+use Rattle.lb_config_parameters.specs.OptionsView.{OptionsView}
+use Rattle.lb_config_parameters.specs.declared.server_line.ServerLine.{ServerLine}
 use Rattle.server_state.specs.declared.settings.AdminState.{AdminState}
 use Rattle.server_state.specs.declared.settings.AdminState.TheVariants.{Ready, Maint}
 use Rattle.lb_config_values.specs.ServerView.{ServerView, SettingsView}

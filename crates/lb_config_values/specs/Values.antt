@@ -1,14 +1,14 @@
 -- Single values: HAProxy Configuration Manual 2.8, sections 3 and 4. Of a setting that is given twice the last one counts.
 use Rattle.std.specs.Prelude.{ℕ, Bool, true, false, ◌||◌, List, Option, Some, None}
 use Rattle.std.specs.List.{filter_map, list_any, last_or}
-use Rattle.check_rule.specs.CheckRequests.{CheckLine, check_line}
-use Rattle.lb_config_lines.specs.declared.http_check.HttpCheck.{HttpCheck}
-use Rattle.lb_config_lines.specs.declared.setting.Balance.{Balance}
+use Rattle.check_workers_rule.specs.CheckRequests.{CheckLine, check_line}
+use Rattle.lb_config_keywords.specs.declared.http_check.HttpCheck.{HttpCheck}
+use Rattle.lb_config_keywords.specs.declared.balance.Balance.{Balance}
 use Rattle.lb_config_lines.specs.declared.setting.Setting.{Setting}
 use Rattle.lb_config_lines.specs.declared.setting.Setting.TheVariants as Set
-use Rattle.lb_config_lines.specs.declared.setting.Timeout.{Timeout}
-use Rattle.lb_config_lines.specs.declared.setting.Timeout.TheVariants as Time
-use Rattle.lb_config_lines.specs.declared.stats_socket.SocketAddress.{SocketAddress}
+use Rattle.lb_config_keywords.specs.declared.second_word.Timeout.{Timeout}
+use Rattle.lb_config_keywords.specs.declared.second_word.Timeout.TheVariants as Time
+use Rattle.lb_config_keywords.specs.declared.stats_socket.SocketAddress.{SocketAddress}
 use Rattle.lb_config_sections.specs.declared.config_section.NumberedSetting.{NumberedSetting}
 use Rattle.lb_config_values.specs.declared.timeouts.Timeouts.{Timeouts}
 use Rattle.lb_config_values.specs.GlobalsView.{GlobalsView}

@@ -3,8 +3,8 @@ ghost use Rattle.lb_config_values.specs.DefaultsLines.{defaults_of, no_defaults}
 
 use crate::servers::default_options;
 use crate::{ProxyValues, SharedCheck};
+use lb_config_parameters::ServerOptions;
 use lb_config_sections::NumberedSetting;
-use lb_config_server::ServerOptions;
 use std::alloc::{AllocError, Global};
 
 /// What a `defaults` section says of the sections behind it.

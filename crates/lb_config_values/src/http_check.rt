@@ -3,7 +3,7 @@ ghost use Rattle.std.specs.Option.{option_copied, option_map, option_or};
 ghost use Rattle.lb_config_values.specs.Servers.{check_request_at};
 ghost use Rattle.lb_config_values.specs.Values.{check_line_in, last_said, request_line_of};
 
-use check_rule::{CheckRule, RequestLine};
+use check_workers_rule::{CheckRule, RequestLine};
 use lb_config_arguments::Endpoint;
 use lb_config_lines::{HttpCheck, Setting};
 use lb_config_sections::NumberedSetting;
@@ -19,7 +19,7 @@ pub struct SharedCheck {
 
 impl Model for SharedCheck {
     ghost use Rattle.std.specs.Prelude.{Option};
-    ghost use Rattle.check_rule.specs.CheckRequests.{CheckLine};
+    ghost use Rattle.check_workers_rule.specs.CheckRequests.{CheckLine};
 
     ghost Value = { Option CheckLine };
 

@@ -3,7 +3,7 @@
 //!
 //! Promised: `ProxyValues::behind`, `GlobalValues::behind` and `SharedCheck::behind` give the last value said, as `specs/Values` defines;
 //! `Defaults::of` gives what a `defaults` section says, as `specs/DefaultsLines` defines; `read_servers` gives the servers as `specs/Servers`
-//! defines. Start at `ProxyValues` and `ServerConfig`.
+//! defines. Start at `ProxyValues` and `ServerConfig`. Private to `lb_config`.
 #![tactic(auto)]
 
 mod defaults;
@@ -22,6 +22,3 @@ pub use proxy_values::ProxyValues;
 pub use server::ServerConfig;
 pub use servers::read_servers;
 pub use timeouts::Timeouts;
-
-#[cfg(test)]
-mod tests;

@@ -1,5 +1,5 @@
 ghost use Rattle.std.specs.Prelude.{◌≡◌, unwrap_or};
-ghost use Rattle.lb_config_lines.specs.declared.setting.Balance.TheVariants.{RoundRobin};
+ghost use Rattle.lb_config_keywords.specs.declared.balance.Balance.TheVariants.{RoundRobin};
 ghost use Rattle.lb_config_values.specs.Values.{no_values, values_behind, with_setting};
 
 use crate::Timeouts;

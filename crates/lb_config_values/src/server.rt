@@ -1,11 +1,12 @@
 ghost use Rattle.std.specs.Prelude.{◌≡◌, ◌≤◌, IfOk, unwrap_or};
+ghost use Rattle.lb_types.specs.declared.limits.TheConstants.{MAX_PINS};
 ghost use Rattle.lb_config_values.specs.Servers.{admin_of, settings_of, server_of};
 ghost use Rattle.lb_config_values.specs.ServerView.{settings_view};
 
 use crate::SharedCheck;
-use check_rule::CheckRule;
+use check_workers_rule::CheckRule;
 use lb_config_arguments::Endpoint;
-use lb_config_server::{ServerLine, ServerOptions};
+use lb_config_parameters::{ServerLine, ServerOptions};
 use lb_types::Name;
 use server_state::{AdminState, CheckSettings, ServerSettings};
 use std::alloc::{AllocError, Global};
@@ -45,7 +46,7 @@ impl ServerConfig {
         options: ServerOptions,
         line: &ServerLine,
     ) -> Result<Self, AllocError>
-        requires { max_pins ≤ 16777216 }
+        requires { max_pins ≤ MAX_PINS }
         ensures { IfOk result (λ server. server ≡ server_of max_pins check.now options line.now) }
     {
         Ok(ServerConfig {
@@ -95,7 +96,7 @@ impl ServerConfig {
 
 /// The settings at the start: what is said, else a weight of 1, no limit of connections, and `rise` 2 and `fall` 3.
 fn settings_of(max_pins: u32, options: ServerOptions) -> ServerSettings
-    requires { max_pins ≤ 16777216 }
+    requires { max_pins ≤ MAX_PINS }
     ensures { settings_view result ≡ settings_of max_pins options }
 {
     let check = CheckSettings {

@@ -2,7 +2,7 @@ ghost use Rattle.std.specs.Prelude.{◌≡◌};
 ghost use Rattle.lb_config_values.specs.Servers.{options_over, with_default};
 
 use lb_config_lines::Setting;
-use lb_config_server::ServerOptions;
+use lb_config_parameters::ServerOptions;
 
 /// What `own` says, and where it says nothing what `defaults` say.
 pub(crate) fn options_over(defaults: ServerOptions, own: ServerOptions) -> ServerOptions

@@ -1,13 +1,14 @@
 ghost use Rattle.std.specs.Prelude.{◌≡◌, ◌≤◌, ◌++◌, IfOk, OnOk};
 ghost use Rattle.std.specs.Option.{option_to_list};
-ghost use Rattle.lb_config_server.specs.Options.{no_options};
+ghost use Rattle.lb_types.specs.declared.limits.TheConstants.{MAX_PINS};
+ghost use Rattle.lb_config_parameters.specs.Options.{no_options};
 ghost use Rattle.lb_config_values.specs.Servers.{default_options, server_in, servers_behind};
 
 use crate::server_options::{options_over, with_default};
 use crate::{ServerConfig, SharedCheck};
 use lb_config_lines::Setting;
+use lb_config_parameters::ServerOptions;
 use lb_config_sections::NumberedSetting;
-use lb_config_server::ServerOptions;
 use std::alloc::{AllocError, Global};
 
 /// What the `default-server` lines of a `defaults` section say of the servers behind it.
@@ -30,7 +31,7 @@ pub fn read_servers(
     defaults: ServerOptions,
     settings: &[NumberedSetting],
 ) -> Result<Vec<ServerConfig>, AllocError>
-    requires { max_pins ≤ 16777216 }
+    requires { max_pins ≤ MAX_PINS }
     ensures { IfOk result (λ servers. servers.items ≡ servers_behind max_pins check.now defaults settings.now) }
 {
     let mut servers = Vec::new(alloc);
@@ -52,7 +53,7 @@ fn push_server(
     setting: &Setting,
     servers: &mut Vec<ServerConfig>,
 ) -> Result<(), AllocError>
-    requires { max_pins ≤ 16777216 }
+    requires { max_pins ≤ MAX_PINS }
     ensures { OnOk result (servers.new.items ≡ servers.old.items ++ option_to_list (server_in max_pins check.now options setting.now)) }
 {
     if let Setting::Server(line) = setting {

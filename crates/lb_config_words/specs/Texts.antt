@@ -3,6 +3,7 @@ use Rattle.std.specs.Prelude.{◌≡◌, ℕ, nat_lt, List, length, take, Option
 use Rattle.std.specs.Str.{is_utf8}
 use Rattle.std.specs.Str.Lossy.{utf8_valid_len}
 use Rattle.lb_types_text.specs.Parts.{parts}
+use Rattle.lb_config_words.specs.declared.text.TheConstants.{MAX_BYTES}
 use Rattle.lb_config_words.specs.declared.fault.TextFault.{TextFault}
 use Rattle.lb_config_words.specs.declared.fault.TextFault.TheVariants.{TooLong, NotUtf8}
 use Rattle.lb_config_words.specs.declared.fault.WordsFault.{WordsFault}
@@ -17,7 +18,7 @@ line_behind front = length (parts 10 front)
 -- why the text has no lines, if it has none: it is too long, or else it is not UTF-8
 unfoldable pub text_fault : List ℕ → Option TextFault
 text_fault text =
-    if nat_lt 1048576 (length text) then Some TooLong
+    if nat_lt MAX_BYTES (length text) then Some TooLong
     else (if is_utf8 text then None else Some (NotUtf8 (line_behind (take (utf8_valid_len text) text))))
 
 -- the lines, where no fault of the whole text stands in their way

@@ -1,6 +1,7 @@
 -- The words of a line: HAProxy Configuration Manual 2.8, section 2.1 ("Configuration file format").
 use Rattle.std.specs.Prelude.{ℕ, ◌-◌, Bool, true, false, not, ◌==◌, Option, Some, None, List, [], ◌∷◌, ◌++◌, length, Result, Ok, Err, if◌then◌else◌}
 use Rattle.std.specs.List.{slice_split, filter}
+use Rattle.lb_config_words.specs.declared.spelling.TheConstants.{MAX_WORDS}
 use Rattle.lb_config_words.specs.declared.fault.SpellingFault.{SpellingFault}
 use Rattle.lb_config_words.specs.declared.fault.SpellingFault.TheVariants.{TooManyWords}
 use Rattle.lb_config_words.specs.declared.piece.Piece.{Piece}
@@ -54,4 +55,4 @@ at_most limit (group ∷ more) = if limit == 0 then broken TooManyWords else one
 
 -- the words of a line without its end
 unfoldable pub spelled_of : List ℕ → Spelled
-spelled_of line = at_most 64 (groups (pieces Plain line))
+spelled_of line = at_most MAX_WORDS (groups (pieces Plain line))

@@ -2,7 +2,7 @@
 //!
 //! Promised: `read_lines` gives exactly the lines that `specs/Lines` defines, or the text's own fault. A line whose spelling
 //! breaks has the words before the break and then the fault, so that a fault at an earlier word can come first. Start at
-//! `read_lines`; what a byte stands for is in `specs/Pieces`.
+//! `read_lines`; what a byte stands for is in `specs/Pieces`. Private to the crates `lb_config..`.
 #![tactic(auto)]
 
 mod fault;
@@ -16,6 +16,3 @@ pub use fault::{SpellingFault, TextFault, WordsFault};
 pub use line::Line;
 pub use text::read_lines;
 pub use word::Word;
-
-#[cfg(test)]
-mod tests;

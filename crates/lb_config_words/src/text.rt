@@ -32,7 +32,7 @@ pub fn read_lines(alloc: Global, text: &[u8]) -> Result<Vec<Line>, WordsFault>
 #[tactic(auto, unfolding(crate::specs::Texts::text_fault))]
 fn text_fault(text: &[u8]) -> Option<TextFault>
     ensures exact { result ≡ text_fault text.now }
-    ensures short { IfNone result (length text.now ≤ 1048576) }
+    ensures short { IfNone result (length text.now ≤ MAX_BYTES) }
 {
     if text.len() > MAX_BYTES {
         return Some(TextFault::TooLong);
@@ -44,7 +44,7 @@ fn text_fault(text: &[u8]) -> Option<TextFault>
 
 /// The number of the line in which the byte behind this front stands.
 fn line_behind(front: &[u8]) -> u32
-    requires { length front.now ≤ 1048576 }
+    requires { length front.now ≤ MAX_BYTES }
     ensures { result ≡ line_behind front.now }
 {
     let mut number: u32 = 0;
@@ -57,7 +57,7 @@ fn line_behind(front: &[u8]) -> u32
 
 /// The lines of a text that is short enough.
 fn split_lines(alloc: Global, text: &[u8]) -> Result<Vec<Line>, AllocError>
-    requires { length text.now ≤ 1048576 }
+    requires { length text.now ≤ MAX_BYTES }
     ensures { IfOk result (λ lines. lines.items ≡ lines_of text.now) }
 {
     let mut lines = Vec::new(alloc);

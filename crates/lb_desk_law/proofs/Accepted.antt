@@ -16,8 +16,8 @@ use Rattle.dual_cert_plan.specs.declared.server.PricedServer.{PricedServer}
 use Rattle.dual_cert_plan.specs.Sheets.{SheetParts, IsSheet, IsKind, IsListed, is_usable}
 use Rattle.dual_cert_plan.specs.Plans.{PlanParts, servers_of, group_of, groups_of, with_group, grown}
 use Rattle.cert_check_law.proofs.Agreeing.{same_kind_is, agreeing_are_best}
-use Rattle.pin_groups_sheet.specs.Sheets.{AreBestForViews}
-use Rattle.pin_groups_sheet.proofs.Room.{best_for_views}
+use Rattle.cert_check_law.specs.Sheets.{AreBestForViews}
+use Rattle.cert_check_law.proofs.Room.{best_for_views}
 use Rattle.cert_check.specs.Verdict.{room, price_at, verdict, IsMadeFor, IsPermitted, is_made_for, is_permitted}
 use Rattle.cert_check.proofs.Decided.{Decides-is_made_for, Decides-is_permitted}
 use Rattle.cert_check.proofs.Means.{rows_differ-means, not_permitted-means, ok-means}

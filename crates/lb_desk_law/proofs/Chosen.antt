@@ -103,7 +103,7 @@ numbered_below test (x ∷ servers) k s e = go (test x) (eqb s k) refl (numbered
     go true false other rest e = let later = rest (rw other at e) in omega arith
     go false c same rest e = let later = rest e in omega arith
 
-any_first : (p : ℕ → Bool) (xs : List ℕ) → list_any p (take 1 xs) ≡ true → list_any p xs ≡ true
+pub any_first : (p : ℕ → Bool) (xs : List ℕ) → list_any p (take 1 xs) ≡ true → list_any p xs ≡ true
 any_first p [] e = e
 any_first p (x ∷ xs) e = go (p x) e
   where

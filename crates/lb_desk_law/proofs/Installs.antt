@@ -1,5 +1,5 @@
 -- What one install does, by its reply.
-use Rattle.std.proofs.Common.{◌≡◌, ◌≢◌, ℕ, ◌+◌, Option, List, [], ◌∷◌, length, map, refl, sym, ap, ◌∙◌, subst, inl, inr, arith}
+use Rattle.std.proofs.Common.{◌≡◌, ◌≢◌, ◌<◌, ◌≤◌, ℕ, ◌+◌, Option, List, [], ◌∷◌, length, map, refl, sym, ap, ◌∙◌, subst, inl, inr, arith}
 use Rattle.std.specs.Prelude.{Result, Ok, Err}
 use Rattle.std.proofs.lemmas.List.{length-map}
 use Rattle.pin_set.specs.declared.pin.PinId.{PinId}
@@ -12,18 +12,21 @@ use Rattle.dual_cert_plan.specs.Sheets.{SheetParts}
 use Rattle.pin_groups.proofs.Tally.{one_sheet}
 use Rattle.cert_check.specs.declared.fault.CheckFault.{CheckFault}
 use Rattle.cert_check.specs.Verdict.{verdict}
+use Rattle.lb_desk_model.specs.declared.entry.Entry.{Entry}
 use Rattle.lb_desk_model.specs.declared.event.Event.TheVariants.{Install}
 use Rattle.lb_desk_model.specs.declared.reply.Refusal.TheVariants.{Stale, Bad}
 use Rattle.lb_desk_model.specs.declared.reply.Reply.{Reply}
 use Rattle.lb_desk_model.specs.declared.reply.Reply.TheVariants.{Installed, Refused}
 use Rattle.lb_desk_model.specs.declared.table_pin.TablePin.{TablePin}
+use Rattle.lb_desk_model.specs.Histories.{History}
 use Rattle.lb_desk_model.specs.Installs.{Judges, Installs, moved_to}
 use Rattle.lb_desk_model.specs.States.{State, view_of}
 use Rattle.lb_desk_model.specs.Steps.{Does, Counts, Step}
-use Rattle.lb_desk_law.specs.Headline.{places_of, IsStaleExactly, IsMoved, IsBadExactly}
+use Rattle.lb_desk_law.specs.Headline.{places_of, IsStaleExactly, IsStaleOnceChanged, IsMoved, IsBadExactly}
 use Rattle.lb_desk_law.proofs.Accepted.{best_of_accepted}
 use Rattle.lb_desk_law.proofs.Apart.{Apart, all_moved, apart-moved, apart-pairs}
 use Rattle.lb_desk_law.proofs.SameViews.{same_view-equal}
+use Rattle.lb_desk_law.proofs.Versions.{history-version, changed-grows, grown-changed}
 
 -- ---- pins at new places
 
@@ -137,6 +140,20 @@ stale-exactly old plan reply new step = record {
   where
     at : reply ≡ Refused Stale → Step old (Install plan) (Refused Stale) new
     at e = subst (λ (r : Reply). Step old (Install plan) r new) e step
+
+-- where the plan has the version of an earlier point, it is stale exactly where some step since then changed the view
+pub stale-once-changed : (point : State) (late : List Entry) (old : State) (plan : PlanParts) (reply : Reply) (new : State) → (since : History point late old)
+    → Step old (Install plan) reply new → IsStaleOnceChanged point late old since plan reply
+stale-once-changed point late old plan reply new since step version =
+    let stale = stale-exactly old plan reply new step in
+    let later : point.version ≤ old.version = history-version point late old since in (
+      λ e.
+          let other : plan.version ≢ old.version = stale.exact.0 e in
+          grown-changed point late old since (omega (arith, other)),
+      λ changed.
+          let grown : point.version < old.version = changed-grows point late old since changed in
+          stale.exact.1 (λ (same : plan.version ≡ old.version). omega (arith, same)),
+    )
 
 bad-does : (old : State) (plan : PlanParts) (reply : Reply) (acted : State) (fault : CheckFault) → Does old (Install plan) reply acted
     → plan.version ≡ old.version → Judges old plan (Err fault) → reply ≡ Refused (Bad fault)

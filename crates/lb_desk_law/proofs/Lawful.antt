@@ -263,7 +263,7 @@ serves-sound backend old request server Loose new sound s =
 
 -- ---- changes
 
-setting-name : (found : ServerState) (setting : Setting) → (with_setting found setting).name ≡ found.name
+pub setting-name : (found : ServerState) (setting : Setting) → (with_setting found setting).name ≡ found.name
 setting-name found (Admin admin) = refl
 setting-name found (Health up) = refl
 setting-name found (Weight weight) = refl
@@ -391,7 +391,7 @@ view_name s = s.name
 abbrev backend_name : BackendServer → List ℕ
 backend_name s = s.name
 
-abbrev pin_of : TablePin → Pin
+abbrev pub pin_of : TablePin → Pin
 pin_of p = p.pin
 
 abbrev first_or : List (List ℕ) → List ℕ
@@ -438,14 +438,14 @@ room-views [] few = All-nil (λ (s : ViewServer). s.capacity < 2 ^ 32)
 room-views (s ∷ servers) few =
     All-cons (λ (v : ViewServer). v.capacity < 2 ^ 32) (view_server s) (map view_server servers) (let here = few.0 in omega arith) (room-views servers few.1)
 
-abbrev IdsDiffer : Pin → Pin → Type 0
+abbrev pub IdsDiffer : Pin → Pin → Type 0
 IdsDiffer a b = a.id ≢ b.id
 
 differ-views : (p : TablePin) (pins : List TablePin) → DifferFrom p pins → All (IdsDiffer p.pin) (map pin_of pins)
 differ-views p [] d = All-nil (IdsDiffer p.pin)
 differ-views p (q ∷ pins) d = All-cons (IdsDiffer p.pin) q.pin (map pin_of pins) d.0 (differ-views p pins d.1)
 
-distinct-pins : (pins : List TablePin) → Apart pins → AllPairs IdsDiffer (map pin_of pins)
+pub distinct-pins : (pins : List TablePin) → Apart pins → AllPairs IdsDiffer (map pin_of pins)
 distinct-pins [] a = λ i j d below within. absurd (omega arith)
 distinct-pins (p ∷ pins) a = AllPairs-cons IdsDiffer p.pin (map pin_of pins) (differ-views p pins a.0) (distinct-pins pins a.1)
 

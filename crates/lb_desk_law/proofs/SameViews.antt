@@ -5,7 +5,7 @@ use Rattle.std.proofs.lemmas.List.Sorted.{IsPermutation-refl, IsPermutation-sym,
 use Rattle.lb_types_pins.specs.Kinds.{same_kind}
 use Rattle.dual_cert_plan.specs.Sheets.{SheetParts}
 use Rattle.pin_set.specs.Views.{ViewParts, kind_of, kinds_of}
-use Rattle.pin_groups_sheet.specs.Sheets.{listed_servers, StandsFor}
+use Rattle.cert_check_law.specs.Sheets.{listed_servers, StandsFor}
 use Rattle.lb_desk_model.specs.States.{State, SameView, view_of}
 
 pub same_view-refl : (a : ViewParts) → SameView a a

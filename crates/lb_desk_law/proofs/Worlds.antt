@@ -87,7 +87,7 @@ never_both state plan sheet score fault of accepted judges =
     let same : Ok score ≡ Err fault = judges-same state plan (Ok score) (Err fault) (record { sheet = sheet; of = of; verdict = accepted }) judges in
     cc
 
-sheet-moved : (a b : State) (sheet : SheetParts) → SameView (view_of a) (view_of b) → a.version ≡ b.version → IsSheetOf a sheet → IsSheetOf b sheet
+pub sheet-moved : (a b : State) (sheet : SheetParts) → SameView (view_of a) (view_of b) → a.version ≡ b.version → IsSheetOf a sheet → IsSheetOf b sheet
 sheet-moved a b sheet same versions of = record {
   lawful = of.lawful;
   version = of.version ∙ versions;

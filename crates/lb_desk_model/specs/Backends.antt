@@ -1,6 +1,7 @@
 -- A backend as the configuration has it: HAProxy Configuration Manual 2.8, `balance`, `option allbackups`, `stick-table`
 -- and section 5.2 (`server`).
 use Rattle.std.specs.Prelude.{◌≡◌, ◌≢◌, ◌≤◌, Bool, true, Option, List, length, All, AllPairs}
+use Rattle.lb_types.specs.declared.limits.TheConstants.{MAX_SERVERS}
 use Rattle.lb_types.specs.Names.{is_name}
 use Rattle.lb_desk_model.specs.declared.backend.BackendServer.{BackendServer}
 use Rattle.lb_desk_model.specs.declared.backend.TableSettings.{TableSettings}
@@ -19,6 +20,6 @@ backend_of_parts balance all_backups table servers =
 
 -- at most 128 servers, with distinct lawful names
 pub record IsBackend (backend : BackendParts) : Type 0 where
-  pub few : length backend.servers ≤ 128
+  pub few : length backend.servers ≤ MAX_SERVERS
   pub named : All (λ s. is_name s.name ≡ true) backend.servers
   pub distinct : AllPairs (λ a b. a.name ≢ b.name) backend.servers

@@ -4,7 +4,9 @@ pub mod Histories
 pub mod Installs
 pub mod Picks
 pub mod RefusalNumbers
+pub mod Seen
 pub mod Serves
 pub mod Servers
 pub mod States
 pub mod Steps
+pub mod Worn

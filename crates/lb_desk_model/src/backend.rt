@@ -1,4 +1,5 @@
 ghost use Rattle.std.specs.Prelude.{◌≤◌};
+ghost use Rattle.lb_types.specs.declared.limits.TheConstants.{MAX_PINS};
 
 use crate::Balance;
 use lb_types::Name;
@@ -22,7 +23,7 @@ pub struct TableSettings {
     /// Whether a full table keeps its pins, and lets no new one in.
     pub no_purge: bool,
     pub ghost size_from: { 1 ≤ size },
-    pub ghost size_to: { size ≤ 16777216 },
+    pub ghost size_to: { size ≤ MAX_PINS },
 }
 
 /// What the configuration says of a backend and no event changes, and the servers that it begins with.

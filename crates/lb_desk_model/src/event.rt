@@ -1,4 +1,5 @@
 ghost use Rattle.std.specs.Prelude.{◌≤◌};
+ghost use Rattle.lb_types.specs.declared.limits.TheConstants.{MAX_COST};
 
 use crate::RuleList;
 use dual_cert_plan::Plan;
@@ -18,7 +19,7 @@ pub struct Request {
     /// When the request came.
     pub moment: Moment,
     pub ghost cost_from: { 1 ≤ cost },
-    pub ghost cost_to: { cost ≤ 1000 },
+    pub ghost cost_to: { cost ≤ MAX_COST },
 }
 
 /// What a backend is asked for. Each is one step of its machine.

@@ -22,6 +22,3 @@ pub use reply::{Refusal, Reply, ServedAs};
 pub use rule_list::RuleList;
 pub use stand::Stand;
 pub use table_pin::TablePin;
-
-#[cfg(test)]
-mod tests;

@@ -5,9 +5,10 @@ ghost use Rattle.lb_desk_model.specs.Steps.{Does};
 ghost use Rattle.lb_desk_plain.specs.Runs.{CountsNoMore};
 
 use crate::StepFault;
+use crate::same_pins::same_pins;
+use crate::same_servers::same_servers;
 use lb_desk_model::{Event, Reply};
 use lb_desk_plain_events::MachineState;
-use lb_desk_plain_views::{same_pins, same_servers};
 use std::alloc::Global;
 
 /// Does what the event says, to all but the version.

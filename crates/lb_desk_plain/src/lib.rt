@@ -8,6 +8,8 @@
 mod acts;
 mod fault;
 mod machine;
+mod same_pins;
+mod same_servers;
 
 pub use fault::StepFault;
 pub use machine::Machine;

@@ -2,7 +2,8 @@
 //!
 //! Promised: each event's method of `MachineState` does what the definitions of `lb_desk_model` say of it, refusals among
 //! it, but for the version, which `MachineState` leaves alone. It is slow, and meant to be read: the fast desk is compared
-//! with it. Which server a request gets stands in `lb_desk_plain_picks`. Start at `MachineState`.
+//! with it. Which server a request gets stands in `lb_desk_plain_picks`. Private to the `lb_desk` crates. Start at
+//! `MachineState`.
 #![tactic(auto)]
 
 mod changes;
@@ -16,6 +17,3 @@ mod serves;
 mod state;
 
 pub use state::MachineState;
-
-#[cfg(test)]
-mod tests;

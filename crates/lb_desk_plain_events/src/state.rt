@@ -24,6 +24,7 @@ pub struct MachineState {
 
 impl Model for MachineState {
     ghost use Rattle.std.specs.Prelude.{◌≤◌, length};
+    ghost use Rattle.lb_types.specs.declared.limits.TheConstants.{MAX_SERVERS};
     ghost use Rattle.lb_desk_model.specs.States.{State};
 
     ghost Value = { State };
@@ -39,7 +40,7 @@ impl Model for MachineState {
       version = s.version;
     } };
 
-    ghost invariant = { λ s. length s.servers.items ≤ 128 };
+    ghost invariant = { λ s. length s.servers.items ≤ MAX_SERVERS };
 }
 
 impl MachineState {

@@ -1,5 +1,6 @@
 ghost use Rattle.std.specs.Prelude.{◌≡◌, ◌≤◌, length, Some, IfOk};
 ghost use Rattle.std.specs.Option.{option_map};
+ghost use Rattle.lb_types.specs.declared.limits.TheConstants.{MAX_SERVERS};
 ghost use Rattle.lb_types.specs.Servers.{has};
 ghost use Rattle.lb_desk_model.specs.Picks.{picked, stand, balanced};
 
@@ -20,7 +21,7 @@ pub fn balanced(
     candidates: ServerSet,
     cursor: Option<Stand>,
 ) -> Result<Option<Pick>, AllocError>
-    requires { length servers.now ≤ 128 }
+    requires { length servers.now ≤ MAX_SERVERS }
     ensures { IfOk result (λ pick. pick ≡ balanced balance (has candidates) servers.now cursor) }
 {
     match balance {

@@ -1,4 +1,5 @@
 ghost use Rattle.std.specs.Prelude.{◌≡◌, ℕ, ◌<◌, ◌≤◌, ◌&&◌, ◌||◌, ◌==◌, nat_lt, length};
+ghost use Rattle.lb_types.specs.declared.limits.TheConstants.{MAX_SERVERS};
 ghost use Rattle.lb_types.specs.Servers.{has};
 ghost use Rattle.pin_set.specs.Assignments.{is_at};
 ghost use Rattle.lb_desk_model.specs.Serves.{load, capacity_at};
@@ -9,7 +10,7 @@ use lb_types::{ServerId, ServerSet};
 
 /// The permitted servers that hold fewer of these pins than their capacity. It walks the pins once for each server.
 pub fn with_room_for_a_pin(servers: &[Server], permitted: ServerSet, pins: &[TablePin]) -> ServerSet
-    requires { length servers.now ≤ 128 }
+    requires { length servers.now ≤ MAX_SERVERS }
     ensures { (s : ℕ) → has result s ≡ (has permitted s && nat_lt (load pins.now s) (capacity_at servers.now s)) }
 {
     let mut found = ServerSet::empty();

@@ -28,6 +28,7 @@ pub(crate) struct CheckLog {
 
 impl Model for CheckLog {
     ghost use Rattle.std.specs.Prelude.{◌≤◌};
+    ghost use Rattle.rise_fall.specs.declared.health.TheConstants.{MAX_STREAK};
     ghost use Rattle.lb_desk_model.specs.States.{Checks};
     ghost use Rattle.lb_desk_plain_picks.specs.Bases.{base_of};
 
@@ -35,7 +36,7 @@ impl Model for CheckLog {
 
     ghost view = { λ c. record { rise = c.rise; fall = c.fall; base = base_of c.start; results = c.results.items } };
 
-    ghost invariant = { λ c. (1 ≤ c.rise) × (c.rise ≤ 1000) × (1 ≤ c.fall) × (c.fall ≤ 1000) };
+    ghost invariant = { λ c. (1 ≤ c.rise) × (c.rise ≤ MAX_STREAK) × (1 ≤ c.fall) × (c.fall ≤ MAX_STREAK) };
 }
 
 impl CheckLog {

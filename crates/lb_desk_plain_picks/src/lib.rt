@@ -2,7 +2,7 @@
 //!
 //! Promised: `balanced` picks as the definitions of `lb_desk_model` say, and a `Server` changes as they say. Each check's
 //! result is kept in a list, and each pick writes the round out: this is the part of the plain machine, `lb_desk_plain`,
-//! that knows no pins' names and no moments. Start at `balanced`.
+//! that knows no pins' names and no moments. Private to the `lb_desk` crates. Start at `balanced`.
 #![tactic(auto)]
 
 mod balancing;
@@ -21,6 +21,3 @@ pub use pick::Pick;
 pub use picks::has_room;
 pub use server::Server;
 pub use usable::usable_among;
-
-#[cfg(test)]
-mod tests;

@@ -1,5 +1,6 @@
 ghost use Rattle.std.specs.Prelude.{◌≡◌, ◌<◌, ◌≤◌, All, IfOk, IsTrue, ◌↔◌};
 ghost use Rattle.std.specs.List.{find, range_with_len};
+ghost use Rattle.lb_types.specs.declared.limits.TheConstants.{MAX_SERVERS};
 ghost use Rattle.lb_types.specs.Servers.{has};
 ghost use Rattle.server_state.specs.Farm.{set_of};
 
@@ -8,7 +9,7 @@ use std::alloc::{AllocError, Global};
 
 /// The numbers of so many servers.
 pub(crate) fn numbers(alloc: Global, count: usize) -> Result<Vec<ServerId>, AllocError>
-    requires { count ≤ 128 }
+    requires { count ≤ MAX_SERVERS }
     ensures { IfOk result (λ numbers. numbers.items ≡ range_with_len 0 count) }
 {
     let mut numbers = Vec::new(alloc);

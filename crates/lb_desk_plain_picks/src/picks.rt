@@ -1,5 +1,6 @@
 ghost use Rattle.std.specs.Prelude.{◌≡◌, ◌<◌, ◌≤◌, ◌+◌, ◌&&◌, ◌||◌, not, true, length, map, ◌++◌, IfOk, OnOk};
 ghost use Rattle.std.specs.List.{find, range_with_len, list_all};
+ghost use Rattle.lb_types.specs.declared.limits.TheConstants.{MAX_SERVERS, MAX_WEIGHT};
 ghost use Rattle.lb_types.specs.Servers.{has};
 ghost use Rattle.lb_desk_model.specs.Picks.{stand, stands, is_behind, is_server_behind, round_from, numbers, is_as_free, is_least, least_loaded, first_free, has_room, weight_at, connections_at, next_stand};
 
@@ -11,7 +12,7 @@ use std::alloc::{AllocError, Global};
 
 /// Each server as often as its weight, in the configuration's order.
 pub(crate) fn stands(alloc: Global, servers: &[Server]) -> Result<Vec<Stand>, AllocError>
-    requires { length servers.now ≤ 128 }
+    requires { length servers.now ≤ MAX_SERVERS }
     ensures { IfOk result (λ all. all.items ≡ stands servers.now) }
 {
     let mut all = Vec::new(alloc);
@@ -22,7 +23,7 @@ pub(crate) fn stands(alloc: Global, servers: &[Server]) -> Result<Vec<Stand>, Al
 }
 
 fn push_stands(all: &mut Vec<Stand>, server: ServerId, weight: u16) -> Result<(), AllocError>
-    requires { weight ≤ 256 }
+    requires { weight ≤ MAX_WEIGHT }
     ensures { OnOk result (all.new.items ≡ all.old.items ++ map (stand server) (range_with_len 1 weight)) }
 {
     for turn in 0..weight {
@@ -187,7 +188,7 @@ fn is_as_free(servers: &[Server], one: ServerId, other: ServerId) -> bool
 
 fn weight_at(servers: &[Server], server: ServerId) -> u16
     ensures exact { result ≡ weight_at servers.now server }
-    ensures in_range { result ≤ 256 }
+    ensures in_range { result ≤ MAX_WEIGHT }
 {
     servers
         .get(server.index())

@@ -8,7 +8,7 @@ ghost use Rattle.std.specs.Option.{option_map, option_map_or};
 
 use crate::check_log::CheckLog;
 use lb_desk_model::BackendServer;
-use lb_types::Name;
+use lb_types::{MAX_CONNECTIONS, MAX_PINS, MAX_WEIGHT, Name};
 use pin_set::ViewServer;
 use rise_fall::Flip;
 use server_state::{AdminState, ChangeFault, Setting};
@@ -30,6 +30,7 @@ pub struct Server {
 
 impl Model for Server {
     ghost use Rattle.std.specs.Prelude.{◌≤◌};
+    ghost use Rattle.lb_types.specs.declared.limits.TheConstants.{MAX_PINS, MAX_WEIGHT};
     ghost use Rattle.lb_desk_model.specs.States.{ServerState};
 
     ghost Value = { ServerState };
@@ -45,7 +46,7 @@ impl Model for Server {
       connections = s.connections;
     } };
 
-    ghost invariant = { λ s. (s.weight ≤ 256) × (s.capacity ≤ 16777216) };
+    ghost invariant = { λ s. (s.weight ≤ MAX_WEIGHT) × (s.capacity ≤ MAX_PINS) };
 }
 
 impl Server {
@@ -92,7 +93,7 @@ impl Server {
     /// The server's name and capacity.
     pub fn seen(&self) -> ViewServer
         ensures exact { result ≡ view_server self.now }
-        ensures capacity { result.capacity ≤ 16777216 }
+        ensures capacity { result.capacity ≤ MAX_PINS }
     {
         ViewServer {
             name: self.name,
@@ -102,7 +103,7 @@ impl Server {
 
     pub(crate) fn weight(&self) -> u16
         ensures exact { result ≡ self.now.weight }
-        ensures in_range { result ≤ 256 }
+        ensures in_range { result ≤ MAX_WEIGHT }
     {
         self.weight
     }
@@ -181,9 +182,9 @@ impl Server {
             Setting::Admin(_) => None,
             Setting::Health(_) if self.checks.is_none() => Some(ChangeFault::NotChecked),
             Setting::Health(_) => None,
-            Setting::Weight(weight) => above(256, weight),
-            Setting::MaxConnections(limit) => above(4294967295, limit),
-            Setting::MaxPins(limit) => above(16777216, limit),
+            Setting::Weight(weight) => above(MAX_WEIGHT, weight),
+            Setting::MaxConnections(limit) => above(MAX_CONNECTIONS, limit),
+            Setting::MaxPins(limit) => above(MAX_PINS, limit),
         }
     }
 

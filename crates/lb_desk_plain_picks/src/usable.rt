@@ -1,4 +1,5 @@
 ghost use Rattle.std.specs.Prelude.{◌≡◌, ◌≤◌, ◌&&◌, ◌||◌, ◌==◌, length, map, if◌then◌else◌};
+ghost use Rattle.lb_types.specs.declared.limits.TheConstants.{MAX_SERVERS};
 ghost use Rattle.lb_types.specs.Servers.{with_server};
 ghost use Rattle.server_state.specs.Server.{is_main, is_spare};
 ghost use Rattle.server_state.specs.Farm.{usable};
@@ -10,7 +11,7 @@ use lb_types::{ServerId, ServerSet};
 /// The servers that new pins may go to: those that aren't backups, or where there is none, the first backup, or all of
 /// them with `all_backups`.
 pub fn usable_among(servers: &[Server], all_backups: bool) -> ServerSet
-    requires { length servers.now ≤ 128 }
+    requires { length servers.now ≤ MAX_SERVERS }
     ensures { result ≡ usable (record { servers = map seen_server servers.now; all_backups = all_backups }) }
 {
     let mut main = ServerSet::empty();

@@ -1,14 +1,23 @@
 //! Worked rows of the machine: lists of events, each with the reply that a backend owes it, and the version after each.
 //!
-//! Tests alone, of the plain machine. `asked.rt` has what a row is made of.
+//! Tests alone, of the plain machine and of what it is made of. Start at `row`, which says what a row is and how it is
+//! played.
 #![tactic(auto)]
 
 #[cfg(test)]
 mod asked;
 #[cfg(test)]
-mod backends;
+mod farms;
 #[cfg(test)]
 mod installing;
+#[cfg(test)]
+mod model;
+#[cfg(test)]
+mod picks;
+#[cfg(test)]
+mod row;
+#[cfg(test)]
+mod runs;
 #[cfg(test)]
 mod serving;
 #[cfg(test)]

@@ -1,208 +1,223 @@
 //! Which server a request gets, and what becomes of its pin.
 
-use crate::asked::{A, Ask, Asked, B, C, Said, compare_pins, play, serve, serve_by};
-use crate::backends::{backup, checked, two};
-use lb_desk_model::{Balance, Refusal, ServedAs};
-use server_state::{AdminState, Setting};
+use crate::asked::Ask::{Open, Serve, ServeBy, ServeDear, Set};
+use crate::asked::Said::{Done, Kept, Loose, Made, Moved, Opened, Refused};
+use crate::asked::{A, B, C};
+use crate::farms::{BACKUP, CHECKED, Farm, Host, TWO};
+use crate::row::{ROW, Row, play};
+use lb_desk_model::{Balance, Refusal};
+use server_state::AdminState::Maint;
+use server_state::Setting::{Admin, Health, Weight};
 use std::test::Fail;
 
-const MADE_A: Said = Said::Served(A, ServedAs::Made);
+const UNCHECKED: Host = Host {
+    check: None,
+    ..CHECKED
+};
 
-const MADE_B: Said = Said::Served(B, ServedAs::Made);
+const FOR_ONE_PIN: Host = Host {
+    max_pins: 1,
+    ..CHECKED
+};
 
-const LOOSE_A: Said = Said::Served(A, ServedAs::Loose);
+const TABLE_OF_TWO: Farm = Farm { size: 2, ..TWO };
 
-const LOOSE_B: Said = Said::Served(B, ServedAs::Loose);
+const PINS: &[Row] = &[
+    // k2 goes, which wasn't used for the longest time, and then k1. k1 is the older pin.
+    Row {
+        name: "a full table loses the pin of the least recent use",
+        farm: TABLE_OF_TWO,
+        steps: &[
+            (Serve(0, "k1"), Made(A)),
+            (Serve(1, "k2"), Made(B)),
+            (Serve(2, "k1"), Kept(A)),
+            (Serve(3, "k3"), Made(A)),
+            (Serve(4, "k2"), Made(B)),
+        ],
+        ..ROW
+    },
+    Row {
+        name: "a full table may keep its pins, and then lets no new one in",
+        farm: Farm {
+            size: 2,
+            no_purge: true,
+            ..TWO
+        },
+        steps: &[
+            (Serve(0, "k1"), Made(A)),
+            (Serve(1, "k2"), Made(B)),
+            (Serve(2, "k1"), Kept(A)),
+            (Serve(3, "k3"), Loose(A)),
+            (Serve(4, "k2"), Kept(B)),
+        ],
+        ..ROW
+    },
+    // Order counts, and not the moment: all pins are used at moment 5.
+    Row {
+        name: "pins stand in order of last use",
+        farm: TABLE_OF_TWO,
+        steps: &[
+            (Serve(5, "k1"), Made(A)),
+            (Serve(5, "k2"), Made(B)),
+            (Serve(5, "k1"), Kept(A)),
+            (Serve(5, "k3"), Made(A)),
+        ],
+        pins: Some(&[("k1", A, 5), ("k3", A, 5)]),
+        ..ROW
+    },
+    Row {
+        name: "a pin that is kept is put last",
+        steps: &[
+            (Serve(0, "k1"), Made(A)),
+            (Serve(5, "k2"), Made(B)),
+            (Serve(7, "k1"), Kept(A)),
+        ],
+        pins: Some(&[("k2", B, 5), ("k1", A, 7)]),
+        ..ROW
+    },
+    Row {
+        name: "a moment before the latest counts as the latest",
+        steps: &[(Serve(9, "k1"), Made(A)), (Serve(3, "k1"), Kept(A))],
+        pins: Some(&[("k1", A, 9)]),
+        ..ROW
+    },
+    Row {
+        name: "capacities turn pins away, and no request without one",
+        farm: Farm {
+            a: FOR_ONE_PIN,
+            b: FOR_ONE_PIN,
+            ..TWO
+        },
+        steps: &[
+            (Serve(0, "k1"), Made(A)),
+            (Serve(1, "k2"), Made(B)),
+            (Serve(2, "k3"), Refused(Refusal::NoServer)),
+            (Serve(3, ""), Loose(A)),
+        ],
+        ..ROW
+    },
+    // The pin wants b, and goes to a while b is down.
+    Row {
+        name: "a pin leaves the server that it wants only while that is down",
+        steps: &[
+            (ServeBy(0, "k1", &[B]), Made(B)),
+            (Set(B, Health(false)), Done),
+            (ServeBy(1, "k1", &[B]), Moved(A)),
+        ],
+        serving: &[(A, true), (B, false)],
+        ..ROW
+    },
+    // A server that two rules name counts once in the pin's name; one that doesn't exist is refused before all else.
+    Row {
+        name: "rules name servers",
+        farm: Farm {
+            c: Some(CHECKED),
+            ..TWO
+        },
+        steps: &[
+            (ServeBy(0, "k1", &[B]), Made(B)),
+            (ServeBy(1, "k1", &[B, B]), Kept(B)),
+            (ServeDear(2, "k2", &[B, A], 1000), Made(B)),
+            (ServeBy(3, "", &[3]), Refused(Refusal::NoSuchServer)),
+        ],
+        ..ROW
+    },
+];
 
-// k2 goes, which wasn't used for the longest time, and then k1.
+const BALANCES: &[Row] = &[
+    Row {
+        name: "a server comes as often as its weight",
+        farm: Farm {
+            a: Host {
+                weight: 2,
+                ..CHECKED
+            },
+            ..TWO
+        },
+        steps: &[
+            (Serve(0, ""), Loose(A)),
+            (Serve(1, ""), Loose(A)),
+            (Serve(2, ""), Loose(B)),
+            (Serve(3, ""), Loose(A)),
+        ],
+        ..ROW
+    },
+    Row {
+        name: "the least loaded server is taken",
+        farm: Farm {
+            balance: Balance::LeastConnections,
+            ..TWO
+        },
+        steps: &[
+            (Serve(0, ""), Loose(A)),
+            (Open(A), Opened),
+            (Serve(0, ""), Loose(B)),
+            (Open(B), Opened),
+            (Open(B), Opened),
+            (Serve(0, ""), Loose(A)),
+        ],
+        ..ROW
+    },
+    Row {
+        name: "the first server with a free connection is taken",
+        farm: Farm {
+            balance: Balance::First,
+            a: Host {
+                max_connections: 1,
+                ..CHECKED
+            },
+            ..TWO
+        },
+        steps: &[
+            (Serve(0, ""), Loose(A)),
+            (Open(A), Opened),
+            (Serve(0, ""), Loose(B)),
+            (Serve(0, "k1"), Made(B)),
+        ],
+        ..ROW
+    },
+    // a, which isn't checked, is in maintenance: the first backup with a weight is usable.
+    Row {
+        name: "the first backup stands in",
+        farm: Farm {
+            a: UNCHECKED,
+            b: BACKUP,
+            c: Some(BACKUP),
+            ..TWO
+        },
+        steps: &[
+            (Set(A, Admin(Maint)), Done),
+            (Serve(0, ""), Loose(B)),
+            (Serve(0, ""), Loose(B)),
+            (Set(B, Weight(0)), Done),
+            (Serve(0, ""), Loose(C)),
+            (Serve(0, ""), Loose(C)),
+        ],
+        ..ROW
+    },
+    Row {
+        name: "all backups may stand in",
+        farm: Farm {
+            all_backups: true,
+            a: UNCHECKED,
+            b: BACKUP,
+            c: Some(BACKUP),
+            ..TWO
+        },
+        steps: &[
+            (Set(A, Admin(Maint)), Done),
+            (Serve(0, ""), Loose(B)),
+            (Serve(0, ""), Loose(C)),
+            (Set(B, Weight(0)), Done),
+            (Serve(0, ""), Loose(C)),
+            (Serve(0, ""), Loose(C)),
+        ],
+        ..ROW
+    },
+];
+
 #[test]
-fn a_full_table_loses_the_pin_of_the_least_recent_use(rt: HostRuntime) -> Result<(), Fail> {
-    let mut sketch = two();
-    sketch.table.size = 2;
-    let rows = [
-        (serve(0, "k1"), MADE_A),
-        (serve(1, "k2"), MADE_B),
-        (serve(2, "k1"), Said::Served(A, ServedAs::Kept)),
-        (serve(3, "k3"), MADE_A),
-        (serve(4, "k2"), MADE_B),
-    ];
-    let mut machine = sketch.machine(rt.alloc())?;
-    play(&rt, rt.alloc(), &mut machine, &rows)
-}
-
-#[test]
-fn a_full_table_may_keep_its_pins(rt: HostRuntime) -> Result<(), Fail> {
-    let mut sketch = two();
-    sketch.table.size = 2;
-    sketch.table.no_purge = true;
-    let rows = [
-        (serve(0, "k1"), MADE_A),
-        (serve(1, "k2"), MADE_B),
-        (serve(2, "k1"), Said::Served(A, ServedAs::Kept)),
-        (serve(3, "k3"), LOOSE_A),
-        (serve(4, "k2"), Said::Served(B, ServedAs::Kept)),
-    ];
-    let mut machine = sketch.machine(rt.alloc())?;
-    play(&rt, rt.alloc(), &mut machine, &rows)
-}
-
-// Order counts, and not the moment: all pins are used at moment 5.
-#[test]
-fn pins_stand_in_order_of_last_use(rt: HostRuntime) -> Result<(), Fail> {
-    let mut sketch = two();
-    sketch.table.size = 2;
-    let rows = [
-        (serve(5, "k1"), MADE_A),
-        (serve(5, "k2"), MADE_B),
-        (serve(5, "k1"), Said::Served(A, ServedAs::Kept)),
-        (serve(5, "k3"), MADE_A),
-    ];
-    let mut machine = sketch.machine(rt.alloc())?;
-    play(&rt, rt.alloc(), &mut machine, &rows)?;
-    compare_pins(&rt, &machine, &[("k1", A, 5), ("k3", A, 5)]);
-    Ok(())
-}
-
-#[test]
-fn a_pin_that_is_kept_is_put_last(rt: HostRuntime) -> Result<(), Fail> {
-    let rows = [
-        (serve(0, "k1"), MADE_A),
-        (serve(5, "k2"), MADE_B),
-        (serve(7, "k1"), Said::Served(A, ServedAs::Kept)),
-    ];
-    let mut machine = two().machine(rt.alloc())?;
-    play(&rt, rt.alloc(), &mut machine, &rows)?;
-    compare_pins(&rt, &machine, &[("k2", B, 5), ("k1", A, 7)]);
-    Ok(())
-}
-
-#[test]
-fn a_moment_before_the_latest_counts_as_the_latest(rt: HostRuntime) -> Result<(), Fail> {
-    let rows = [
-        (serve(9, "k1"), MADE_A),
-        (serve(3, "k1"), Said::Served(A, ServedAs::Kept)),
-    ];
-    let mut machine = two().machine(rt.alloc())?;
-    play(&rt, rt.alloc(), &mut machine, &rows)?;
-    compare_pins(&rt, &machine, &[("k1", A, 9)]);
-    Ok(())
-}
-
-#[test]
-fn capacities_turn_pins_away_and_no_request_without_one(rt: HostRuntime) -> Result<(), Fail> {
-    let mut sketch = two();
-    sketch.a.max_pins = 1;
-    sketch.b.max_pins = 1;
-    let rows = [
-        (serve(0, "k1"), MADE_A),
-        (serve(1, "k2"), MADE_B),
-        (serve(2, "k3"), Said::Refused(Refusal::NoServer)),
-        (serve(3, ""), LOOSE_A),
-    ];
-    let mut machine = sketch.machine(rt.alloc())?;
-    play(&rt, rt.alloc(), &mut machine, &rows)
-}
-
-#[test]
-fn a_server_comes_as_often_as_its_weight(rt: HostRuntime) -> Result<(), Fail> {
-    let mut sketch = two();
-    sketch.a.weight = 2;
-    let rows = [
-        (serve(0, ""), LOOSE_A),
-        (serve(0, ""), LOOSE_A),
-        (serve(0, ""), LOOSE_B),
-        (serve(0, ""), LOOSE_A),
-    ];
-    let mut machine = sketch.machine(rt.alloc())?;
-    play(&rt, rt.alloc(), &mut machine, &rows)
-}
-
-#[test]
-fn the_least_loaded_server_is_taken(rt: HostRuntime) -> Result<(), Fail> {
-    let mut sketch = two();
-    sketch.balance = Balance::LeastConnections;
-    let rows = [
-        (serve(0, ""), LOOSE_A),
-        (Ask::Open(A), Said::Opened),
-        (serve(0, ""), LOOSE_B),
-        (Ask::Open(B), Said::Opened),
-        (Ask::Open(B), Said::Opened),
-        (serve(0, ""), LOOSE_A),
-    ];
-    let mut machine = sketch.machine(rt.alloc())?;
-    play(&rt, rt.alloc(), &mut machine, &rows)
-}
-
-#[test]
-fn the_first_server_with_a_free_connection_is_taken(rt: HostRuntime) -> Result<(), Fail> {
-    let mut sketch = two();
-    sketch.balance = Balance::First;
-    sketch.a.max_connections = 1;
-    let rows = [
-        (serve(0, ""), LOOSE_A),
-        (Ask::Open(A), Said::Opened),
-        (serve(0, ""), LOOSE_B),
-        (serve(0, "k1"), MADE_B),
-    ];
-    let mut machine = sketch.machine(rt.alloc())?;
-    play(&rt, rt.alloc(), &mut machine, &rows)
-}
-
-// a, which isn't checked, is in maintenance: the first backup with a weight is usable.
-#[test]
-fn the_first_backup_stands_in(rt: HostRuntime) -> Result<(), Fail> {
-    let mut sketch = two();
-    sketch.a.check = None;
-    sketch.b = backup();
-    sketch.c = Some(backup());
-    let rows = [
-        (Ask::Set(A, Setting::Admin(AdminState::Maint)), Said::Done),
-        (serve(0, ""), LOOSE_B),
-        (serve(0, ""), LOOSE_B),
-        (Ask::Set(B, Setting::Weight(0)), Said::Done),
-        (serve(0, ""), Said::Served(C, ServedAs::Loose)),
-        (serve(0, ""), Said::Served(C, ServedAs::Loose)),
-    ];
-    let mut machine = sketch.machine(rt.alloc())?;
-    play(&rt, rt.alloc(), &mut machine, &rows)
-}
-
-#[test]
-fn all_backups_may_stand_in(rt: HostRuntime) -> Result<(), Fail> {
-    let mut sketch = two();
-    sketch.all_backups = true;
-    sketch.a.check = None;
-    sketch.b = backup();
-    sketch.c = Some(backup());
-    let rows = [
-        (Ask::Set(A, Setting::Admin(AdminState::Maint)), Said::Done),
-        (serve(0, ""), LOOSE_B),
-        (serve(0, ""), Said::Served(C, ServedAs::Loose)),
-        (Ask::Set(B, Setting::Weight(0)), Said::Done),
-        (serve(0, ""), Said::Served(C, ServedAs::Loose)),
-        (serve(0, ""), Said::Served(C, ServedAs::Loose)),
-    ];
-    let mut machine = sketch.machine(rt.alloc())?;
-    play(&rt, rt.alloc(), &mut machine, &rows)
-}
-
-// A server that two rules name counts once in the pin's name; one that doesn't exist is refused before all else.
-#[test]
-fn rules_name_servers(rt: HostRuntime) -> Result<(), Fail> {
-    let dear = Asked {
-        moment: 2,
-        key: "k2",
-        rules: &[B, A],
-        cost: 1000,
-    };
-    let mut sketch = two();
-    sketch.c = Some(checked());
-    let rows = [
-        (serve_by(0, "k1", &[B]), MADE_B),
-        (serve_by(1, "k1", &[B, B]), Said::Served(B, ServedAs::Kept)),
-        (Ask::Serve(dear), MADE_B),
-        (serve_by(3, "", &[3]), Said::Refused(Refusal::NoSuchServer)),
-    ];
-    let mut machine = sketch.machine(rt.alloc())?;
-    play(&rt, rt.alloc(), &mut machine, &rows)
+fn requests_are_served(rt: HostRuntime) -> Result<(), Fail> {
+    play(&rt, rt.alloc(), PINS)?;
+    play(&rt, rt.alloc(), BALANCES)
 }

@@ -1,119 +1,124 @@
 //! The version after each event: one more where the view has changed, and else what it was.
 
-use crate::asked::{A, Ask, B, count, serve};
-use crate::backends::two;
-use server_state::{AdminState, Setting};
+use crate::asked::Ask::{self, Check, Close, Expire, Install, Open, Serve, Set, Snapshot};
+use crate::asked::{A, B};
+use crate::farms::{CHECKED, Farm, Host, TWO};
+use crate::row::{Counted, count};
+use server_state::AdminState::{Drain, Maint, Ready};
+use server_state::Setting::{Admin, Health, MaxConnections, MaxPins, Weight};
 use std::test::Fail;
 
-const DRAIN_A: Ask = Ask::Set(A, Setting::Admin(AdminState::Drain));
+const DRAIN_A: Ask = Set(A, Admin(Drain));
 
-const READY_A: Ask = Ask::Set(A, Setting::Admin(AdminState::Ready));
+const READY_A: Ask = Set(A, Admin(Ready));
 
-const MAINT_A: Ask = Ask::Set(A, Setting::Admin(AdminState::Maint));
+const MAINT_A: Ask = Set(A, Admin(Maint));
+
+const THAT_STAYS: &str =
+    "stickyplan 1\nversion 3\nserver a off\nserver b cap 1 price 0\nrow 1 b b b\nend\n";
+
+const THAT_MOVES: &str =
+    "stickyplan 1\nversion 5\nserver a cap 5 price 0\nserver b off\nrow 1 b a a\nend\n";
+
+const ROWS: &[Counted] = &[
+    // At moment 4 one pin goes and one is made in one step.
+    Counted {
+        name: "requests change the view where a pin is made or lost",
+        farm: Farm {
+            size: 2,
+            expire: Some(100),
+            ..TWO
+        },
+        steps: &[
+            (Serve(0, ""), 0),
+            (Serve(1, "k1"), 1),
+            (Serve(2, "k1"), 1),
+            (Snapshot, 1),
+            (Serve(3, "k2"), 2),
+            (Serve(4, "k3"), 3),
+            (Expire(102), 3),
+            (Expire(103), 4),
+            (Expire(103), 4),
+            (Serve(103, "k1"), 5),
+        ],
+    },
+    Counted {
+        name: "connections leave the view",
+        farm: TWO,
+        steps: &[
+            (Serve(0, "k1"), 1),
+            (Open(A), 1),
+            (Close(A), 1),
+            (Close(A), 1),
+            (Set(A, MaxConnections(1)), 1),
+            (Set(A, MaxConnections(0)), 1),
+        ],
+    },
+    // What is usable counts, and not why: a is down already when it drains for the third time.
+    Counted {
+        name: "admin states and health change the view where the usable servers change",
+        farm: TWO,
+        steps: &[
+            (DRAIN_A, 1),
+            (DRAIN_A, 1),
+            (MAINT_A, 1),
+            (READY_A, 2),
+            (READY_A, 2),
+            (DRAIN_A, 3),
+            (READY_A, 4),
+            (Check(A, false), 5),
+            (Check(A, false), 5),
+            (DRAIN_A, 5),
+            (READY_A, 5),
+            (Check(A, true), 5),
+            (Check(A, true), 6),
+            (Set(A, Health(true)), 6),
+            (Set(A, Health(false)), 7),
+            (Set(A, Health(true)), 8),
+        ],
+    },
+    // No sheet shows the last capacity, since the server isn't usable.
+    Counted {
+        name: "weights change the view at zero alone, and capacities always",
+        farm: TWO,
+        steps: &[
+            (Set(A, Weight(2)), 0),
+            (Set(A, Weight(2)), 0),
+            (Set(A, Weight(257)), 0),
+            (Set(A, Weight(0)), 1),
+            (Set(A, Weight(1)), 2),
+            (Set(A, MaxPins(4)), 3),
+            (Set(A, MaxPins(4)), 3),
+            (DRAIN_A, 4),
+            (Set(A, MaxPins(3)), 5),
+            (Set(B, Admin(Ready)), 5),
+        ],
+    },
+    // A pin that moves changes the view, a request that is refused doesn't, and a plan that leaves the pins doesn't either.
+    Counted {
+        name: "moves change the view",
+        farm: Farm {
+            b: Host {
+                max_pins: 1,
+                ..CHECKED
+            },
+            ..TWO
+        },
+        steps: &[
+            (Serve(0, "k1"), 1),
+            (MAINT_A, 2),
+            (Serve(1, "k1"), 3),
+            (Serve(2, "k2"), 3),
+            (Install(THAT_STAYS), 3),
+            (READY_A, 4),
+            (Set(B, Admin(Drain)), 5),
+            (Install(THAT_MOVES), 6),
+            (Install(THAT_MOVES), 6),
+        ],
+    },
+];
 
 #[test]
-fn requests_change_the_view_where_a_pin_is_made_moved_or_lost(rt: HostRuntime) -> Result<(), Fail> {
-    let mut sketch = two();
-    sketch.table.size = 2;
-    sketch.table.expire = Some(100);
-    let rows = [
-        (serve(0, ""), 0),
-        (serve(1, "k1"), 1),
-        (serve(2, "k1"), 1),
-        (Ask::Snapshot, 1),
-        (serve(3, "k2"), 2),
-        // One pin goes and one is made in one step.
-        (serve(4, "k3"), 3),
-        (Ask::Expire(102), 3),
-        (Ask::Expire(103), 4),
-        (Ask::Expire(103), 4),
-        (serve(103, "k1"), 5),
-    ];
-    let mut machine = sketch.machine(rt.alloc())?;
-    count(&rt, rt.alloc(), &mut machine, &rows)
-}
-
-#[test]
-fn connections_leave_the_view(rt: HostRuntime) -> Result<(), Fail> {
-    let rows = [
-        (serve(0, "k1"), 1),
-        (Ask::Open(A), 1),
-        (Ask::Close(A), 1),
-        (Ask::Close(A), 1),
-        (Ask::Set(A, Setting::MaxConnections(1)), 1),
-        (Ask::Set(A, Setting::MaxConnections(0)), 1),
-    ];
-    let mut machine = two().machine(rt.alloc())?;
-    count(&rt, rt.alloc(), &mut machine, &rows)
-}
-
-// What is usable counts, and not why.
-#[test]
-fn admin_states_and_health_change_the_view_where_the_usable_servers_change(
-    rt: HostRuntime,
-) -> Result<(), Fail> {
-    let rows = [
-        (DRAIN_A, 1),
-        (DRAIN_A, 1),
-        (MAINT_A, 1),
-        (READY_A, 2),
-        (READY_A, 2),
-        (DRAIN_A, 3),
-        (READY_A, 4),
-        (Ask::Check(A, false), 5),
-        (Ask::Check(A, false), 5),
-        // It is down already.
-        (DRAIN_A, 5),
-        (READY_A, 5),
-        (Ask::Check(A, true), 5),
-        (Ask::Check(A, true), 6),
-        (Ask::Set(A, Setting::Health(true)), 6),
-        (Ask::Set(A, Setting::Health(false)), 7),
-        (Ask::Set(A, Setting::Health(true)), 8),
-    ];
-    let mut machine = two().machine(rt.alloc())?;
-    count(&rt, rt.alloc(), &mut machine, &rows)
-}
-
-#[test]
-fn weights_change_the_view_at_zero_alone_and_capacities_always(
-    rt: HostRuntime,
-) -> Result<(), Fail> {
-    let rows = [
-        (Ask::Set(A, Setting::Weight(2)), 0),
-        (Ask::Set(A, Setting::Weight(2)), 0),
-        (Ask::Set(A, Setting::Weight(257)), 0),
-        (Ask::Set(A, Setting::Weight(0)), 1),
-        (Ask::Set(A, Setting::Weight(1)), 2),
-        (Ask::Set(A, Setting::MaxPins(4)), 3),
-        (Ask::Set(A, Setting::MaxPins(4)), 3),
-        (DRAIN_A, 4),
-        // No sheet shows this capacity, since the server isn't usable.
-        (Ask::Set(A, Setting::MaxPins(3)), 5),
-        (Ask::Set(B, Setting::Admin(AdminState::Ready)), 5),
-    ];
-    let mut machine = two().machine(rt.alloc())?;
-    count(&rt, rt.alloc(), &mut machine, &rows)
-}
-
-// A pin that moves changes the view, and a request that is refused doesn't. A plan that leaves the pins doesn't either.
-#[test]
-fn moves_change_the_view(rt: HostRuntime) -> Result<(), Fail> {
-    let stays = "stickyplan 1\nversion 3\nserver a off\nserver b cap 1 price 0\nrow 1 b b b\nend\n";
-    let moves = "stickyplan 1\nversion 5\nserver a cap 5 price 0\nserver b off\nrow 1 b a a\nend\n";
-    let mut sketch = two();
-    sketch.b.max_pins = 1;
-    let rows = [
-        (serve(0, "k1"), 1),
-        (MAINT_A, 2),
-        (serve(1, "k1"), 3),
-        (serve(2, "k2"), 3),
-        (Ask::Install(stays), 3),
-        (READY_A, 4),
-        (Ask::Set(B, Setting::Admin(AdminState::Drain)), 5),
-        (Ask::Install(moves), 6),
-        (Ask::Install(moves), 6),
-    ];
-    let mut machine = sketch.machine(rt.alloc())?;
-    count(&rt, rt.alloc(), &mut machine, &rows)
+fn events_have_their_versions(rt: HostRuntime) -> Result<(), Fail> {
+    count(&rt, rt.alloc(), ROWS)
 }

@@ -1,9 +1,12 @@
 //! Worked rows: whole inputs with the answers that the product owes them, and brute force over small inputs.
 //!
-//! Tests that cross crates stand here, so that the crates below stay quick to check.
+//! Tests alone, through the program's jobs over readers and writers. Texts of plans and sheets stand in `dual_cert_rows`,
+//! and configurations with their reports in `lb_check_rows`.
 #![tactic(auto)]
 
 #[cfg(test)]
+mod broken_files;
+#[cfg(test)]
 mod brute_force;
 #[cfg(test)]
-mod verify_rows;
+mod plan_jobs;

@@ -2,6 +2,7 @@
 -- with a length of at most 64 bytes. The name `-` is left out: it is the word for "no server" in plans.
 use Rattle.std.specs.Prelude.{ℕ, Bool, true, false, ◌==◌, ◌&&◌, ◌||◌, not, nat_lt, nat_le, List, [], ◌∷◌, length, Result, Ok, Err, if◌then◌else◌, bytes_eq, codes}
 use Rattle.std.specs.List.{list_all}
+use Rattle.lb_types.specs.declared.limits.TheConstants.{MAX_NAME_BYTES}
 use Rattle.lb_types.specs.declared.name.NameFault.{NameFault}
 use Rattle.lb_types.specs.declared.name.NameFault.TheVariants.{Empty, TooLong, BadByte}
 
@@ -30,8 +31,8 @@ is_lawful bytes = list_all is_name_byte bytes && not (is_dash bytes)
 -- the name that the bytes are, or the first of the faults that holds
 abbrev pub name_of : List ℕ → Result (List ℕ) NameFault
 name_of bytes =
-    if length bytes == 0 then Err Empty else (if nat_lt 64 (length bytes) then Err TooLong else (if is_lawful bytes then Ok bytes else Err BadByte))
+    if length bytes == 0 then Err Empty else (if nat_lt MAX_NAME_BYTES (length bytes) then Err TooLong else (if is_lawful bytes then Ok bytes else Err BadByte))
 
 -- the bytes are a name
 abbrev pub is_name : List ℕ → Bool
-is_name bytes = not (length bytes == 0) && nat_le (length bytes) 64 && is_lawful bytes
+is_name bytes = not (length bytes == 0) && nat_le (length bytes) MAX_NAME_BYTES && is_lawful bytes

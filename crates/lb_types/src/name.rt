@@ -9,6 +9,7 @@ ghost use Rattle.std.specs.Cmp.Rules.{hashing};
 ghost use Rattle.std.proofs.Common.{rules};
 ghost use Rattle.lb_types.specs.NameFields.{padded};
 
+use crate::MAX_NAME_BYTES;
 use std::fmt;
 use std::hash::{Hash, Hasher};
 use std::marker::Model;
@@ -48,7 +49,7 @@ impl NameFault {
 /// `-` alone. It holds its bytes itself and takes no memory.
 #[derive(Clone, Copy)]
 pub struct Name {
-    bytes: [u8; 64],
+    bytes: [u8; MAX_NAME_BYTES],
     len: usize,
 }
 
@@ -78,7 +79,7 @@ impl Name {
         if bytes.is_empty() {
             return Err(NameFault::Empty);
         }
-        if bytes.len() > 64 {
+        if bytes.len() > MAX_NAME_BYTES {
             return Err(NameFault::TooLong);
         }
         if !is_lawful(bytes) {
@@ -156,12 +157,12 @@ fn is_dash(bytes: &[u8]) -> bool
     bytes == b"-".as_slice()
 }
 
-/// The bytes, and zeros behind them up to 64 bytes.
-fn padded(bytes: &[u8]) -> [u8; 64]
-    requires { length bytes.now ≤ 64 }
+/// The bytes, and zeros behind them up to the most bytes of a name.
+fn padded(bytes: &[u8]) -> [u8; MAX_NAME_BYTES]
+    requires { length bytes.now ≤ MAX_NAME_BYTES }
     ensures { result ≡ padded bytes.now }
 {
-    let mut all = [0; 64];
+    let mut all = [0; MAX_NAME_BYTES];
     for (i, byte) in bytes.iter().enumerate() {
         all[i] = *byte;
     }

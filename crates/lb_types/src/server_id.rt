@@ -1,4 +1,5 @@
 ghost use Rattle.std.specs.Prelude.{◌≡◌, ℕ, ◌<◌};
+ghost use Rattle.lb_types.specs.declared.limits.TheConstants.{MAX_SERVERS};
 
 use std::marker::Model;
 
@@ -16,18 +17,15 @@ impl Model for ServerId {
 
     ghost view = { λ server. server.index };
 
-    ghost invariant = { λ server. server.index < 128 };
+    ghost invariant = { λ server. server.index < MAX_SERVERS };
 
     ghost inverse = { λ index. record { index = index } };
 }
 
 impl ServerId {
-    /// How many servers a backend may have.
-    pub const LIMIT: usize = 128;
-
     /// The server at `index`, which is 0 to 127.
     pub fn new(index: u8) -> Self
-        requires { index < 128 }
+        requires { index < MAX_SERVERS }
         ensures { result ≡ index }
     {
         ServerId { index }
@@ -36,7 +34,7 @@ impl ServerId {
     /// The server's place in the configuration's order, 0 to 127.
     pub fn index(self) -> usize
         ensures exact { result ≡ self }
-        ensures below_limit { result < 128 }
+        ensures below_limit { result < MAX_SERVERS }
     {
         usize::from(self.index)
     }

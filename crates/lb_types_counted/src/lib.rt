@@ -8,6 +8,3 @@
 mod counted;
 
 pub use counted::Counted;
-
-#[cfg(test)]
-mod tests;

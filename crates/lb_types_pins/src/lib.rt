@@ -8,6 +8,3 @@
 mod kind;
 
 pub use kind::{Group, PinKind, Row};
-
-#[cfg(test)]
-mod tests;

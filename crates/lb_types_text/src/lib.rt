@@ -9,6 +9,3 @@ mod parts;
 
 pub use numbers::{Digits, numeral};
 pub use parts::{Parts, cut};
-
-#[cfg(test)]
-mod tests;

@@ -2,4 +2,3 @@ pub mod Order
 pub mod Sheets
 pub mod Leftovers
 pub mod Tally
-pub mod SmallPlans

@@ -20,7 +20,7 @@ use Rattle.lb_types_pins.proofs.Order.{same_kind-refl}
 use Rattle.pin_set.specs.Rows.{AreGroupsOf}
 use Rattle.pin_groups.specs.Rising.{AreRising}
 use Rattle.std.proofs.lemmas.List.Sums.{get_or-le-sum_by}
-use Rattle.pin_groups_sheet.specs.Sheets.{listed_server, listed_servers}
+use Rattle.cert_check_law.specs.Sheets.{listed_server, listed_servers}
 
 pub length-listed : (usable : ℕ) (servers : List ViewServer) → length (listed_servers usable servers) ≡ length servers
 length-listed usable servers = length-map (enumerate_from 0 servers) (listed_server usable) ∙ length-enumerate_from 0 servers

@@ -7,7 +7,7 @@ use Rattle.pin_set.specs.declared.pin.Pin.{Pin}
 use Rattle.pin_set.specs.declared.view.ViewServer.{ViewServer}
 use Rattle.pin_set.specs.Pins.{permitted}
 use Rattle.pin_set.specs.Views.{ViewParts, IsView}
-use Rattle.pin_groups_sheet.specs.Sheets.{StandsFor}
+use Rattle.cert_check_law.specs.Sheets.{StandsFor}
 use Rattle.pin_groups.specs.declared.counted.PinCount.{PinCount}
 
 -- how many of the pins have this place, want these servers and have this cost

@@ -1,10 +1,11 @@
 ghost use Rattle.std.specs.Prelude.{◌≡◌, ◌^◌, ◌≤◌, IfOk, sum_by, if◌then◌else◌};
+ghost use Rattle.lb_types.specs.declared.limits.TheConstants.{MAX_PINS};
 ghost use Rattle.lb_types_pins.specs.declared.kind.PinKind.{PinKind as AnyKind};
 ghost use Rattle.lb_types_pins.specs.Kinds.{same_kind};
 ghost use Rattle.dual_cert_plan.specs.Sheets.{SheetParts, IsSheet};
 ghost use Rattle.pin_set.specs.Rows.{count_in};
 ghost use Rattle.pin_set.specs.Views.{ViewParts};
-ghost use Rattle.pin_groups_sheet.specs.Sheets.{StandsFor};
+ghost use Rattle.cert_check_law.specs.Sheets.{StandsFor};
 ghost use Rattle.pin_groups.specs.Counts.{counted_kind, HasCounts, AreOfSomeView, OneSheetForAView};
 ghost use Rattle.pin_groups.specs.Rising.{AreRising};
 
@@ -54,7 +55,7 @@ fn groups_counted(
     usable: ServerSet,
     counts: &[PinCount],
 ) -> Result<Vec<Group>, AllocError>
-    requires { sum_by (λ c. c.count) counts.now ≤ 16777216 }
+    requires { sum_by (λ c. c.count) counts.now ≤ MAX_PINS }
     ensures rising { IfOk result (λ groups. AreRising groups.items) }
     ensures counts { IfOk result (λ groups. (kind : AnyKind) → count_in groups.items kind
         ≡ sum_by (λ c. if same_kind kind (counted_kind usable c) then c.count else 0) counts.now) }
@@ -69,7 +70,7 @@ fn groups_counted(
 }
 
 fn group_counted(usable: ServerSet, counted: &PinCount) -> Group
-    requires { counted.now.count ≤ 16777216 }
+    requires { counted.now.count ≤ MAX_PINS }
     ensures kind { result.kind ≡ counted_kind usable counted.now }
     ensures count { result.count ≡ counted.now.count }
 {

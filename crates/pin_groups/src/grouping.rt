@@ -1,8 +1,9 @@
 ghost use Rattle.std.specs.Prelude.{◌≡◌, ◌^◌, ◌≤◌, length, map, IfOk};
+ghost use Rattle.lb_types.specs.declared.limits.TheConstants.{MAX_PINS};
 ghost use Rattle.dual_cert_plan.specs.Sheets.{IsSheet};
 ghost use Rattle.pin_set.specs.Rows.{AreGroupsOf};
 ghost use Rattle.pin_set.specs.Views.{kind_of};
-ghost use Rattle.pin_groups_sheet.specs.Sheets.{StandsFor};
+ghost use Rattle.cert_check_law.specs.Sheets.{StandsFor};
 ghost use Rattle.pin_groups.specs.Rising.{AreRising};
 
 use crate::listed::listed_servers;
@@ -28,12 +29,8 @@ pub fn group(alloc: Global, view: &View, version: u64) -> Result<Sheet, AllocErr
     Ok(Sheet::new(version, servers, groups))
 }
 
-pub(crate) fn groups_of(
-    alloc: Global,
-    usable: ServerSet,
-    pins: &[Pin],
-) -> Result<Vec<Group>, AllocError>
-    requires { length pins.now ≤ 16777216 }
+fn groups_of(alloc: Global, usable: ServerSet, pins: &[Pin]) -> Result<Vec<Group>, AllocError>
+    requires { length pins.now ≤ MAX_PINS }
     ensures rising { IfOk result (λ groups. AreRising groups.items) }
     ensures counts { IfOk result (λ groups. AreGroupsOf groups.items (map (kind_of usable) pins.now)) }
 {

@@ -2,7 +2,7 @@
 //!
 //! Promised: `group` gives the sheet that stands for a view, `sheet_of` the same one from counts alone, and `spread` gives
 //! an assignment that agrees with a plan for that sheet. Start at `group`; what "stands for" means is in
-//! `pin_groups_sheet`, and what "agrees" means in `pin_set`.
+//! `cert_check_law`, and what "agrees" means in `pin_set`.
 #![tactic(auto)]
 
 mod counted;
@@ -14,6 +14,3 @@ mod spreading;
 pub use counted::{PinCount, one_sheet_for_a_view, sheet_of};
 pub use grouping::group;
 pub use spreading::spread;
-
-#[cfg(test)]
-mod tests;

@@ -1,5 +1,6 @@
 ghost use Rattle.std.specs.Prelude.{◌≡◌, ◌≤◌, ◌<◌, length, IfOk};
-ghost use Rattle.pin_groups_sheet.specs.Sheets.{listed_server, listed_servers};
+ghost use Rattle.lb_types.specs.declared.limits.TheConstants.{MAX_SERVERS};
+ghost use Rattle.cert_check_law.specs.Sheets.{listed_server, listed_servers};
 
 use dual_cert_plan::Server;
 use lb_types::{ServerId, ServerSet};
@@ -12,7 +13,7 @@ pub(crate) fn listed_servers(
     usable: ServerSet,
     servers: &[ViewServer],
 ) -> Result<Vec<Server>, AllocError>
-    requires { length servers.now ≤ 128 }
+    requires { length servers.now ≤ MAX_SERVERS }
     ensures { IfOk result (λ listed. listed.items ≡ listed_servers usable servers.now) }
 {
     let mut listed = Vec::new(alloc);
@@ -23,7 +24,7 @@ pub(crate) fn listed_servers(
 }
 
 fn listed_server(usable: ServerSet, index: usize, server: &ViewServer) -> Server
-    requires { index < 128 }
+    requires { index < MAX_SERVERS }
     ensures { result ≡ listed_server usable (index, server.now) }
 {
     let capacity = if usable.has(ServerId::new(index as u8)) {

@@ -1,4 +1,5 @@
 ghost use Rattle.std.specs.Prelude.{◌≡◌, ℕ, ◌+◌, ◌<◌, ◌≤◌, true, false, length, OnOk, slice_index_or, if◌then◌else◌};
+ghost use Rattle.lb_types.specs.declared.limits.TheConstants.{MAX_PINS};
 ghost use Rattle.lb_types_pins.specs.declared.kind.Group.{Group as AnyGroup};
 ghost use Rattle.lb_types_pins.specs.declared.kind.PinKind.{PinKind as AnyKind};
 ghost use Rattle.lb_types_pins.specs.Kinds.{kind_before, same_kind};
@@ -13,7 +14,7 @@ use std::alloc::AllocError;
 pub(crate) fn put(groups: &mut Vec<Group>, more: Group) -> Result<(), AllocError>
     requires rising { AreRising groups.old.items }
     requires some { 1 ≤ more.count }
-    requires fits { count_in groups.old.items more.kind + more.count ≤ 16777216 }
+    requires fits { count_in groups.old.items more.kind + more.count ≤ MAX_PINS }
     ensures rising { OnOk result (AreRising groups.new.items) }
     ensures counts { OnOk result ((kind : AnyKind) → count_in groups.new.items kind
         ≡ count_in groups.old.items kind + (if same_kind kind more.kind then more.count else 0)) }

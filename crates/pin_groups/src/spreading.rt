@@ -27,7 +27,7 @@ pub fn spread(alloc: Global, view: &View, plan: &Plan) -> Result<Vec<Place>, All
     spread_pins(alloc, view.usable(), view.pins(), plan.rows())
 }
 
-pub(crate) fn spread_pins(
+fn spread_pins(
     alloc: Global,
     usable: ServerSet,
     pins: &[Pin],
@@ -100,7 +100,7 @@ fn first_of(rows: &[Row], kind: PinKind) -> usize
 }
 
 /// The first row from a place on that has pins left, or the end.
-pub(crate) fn first_left(left: &[u32], from: usize) -> usize
+fn first_left(left: &[u32], from: usize) -> usize
     requires { from ≤ length left.now }
     ensures from { from ≤ result }
     ensures within { result ≤ length left.now }

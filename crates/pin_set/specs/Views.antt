@@ -1,6 +1,7 @@
 -- The view of a backend: what decides which assignments of its pins are best.
 use Rattle.std.specs.Prelude.{◌≡◌, ◌≢◌, ℕ, ◌^◌, ◌<◌, ◌≤◌, true, Option, Some, None, List, map, length, slice_get, All, AllPairs, if◌then◌else◌}
 use Rattle.std.specs.Option.{ForSome}
+use Rattle.lb_types.specs.declared.limits.TheConstants.{MAX_COST, MAX_PINS, MAX_SERVERS}
 use Rattle.lb_types.specs.Names.{is_name}
 use Rattle.lb_types.specs.Servers.{has}
 use Rattle.lb_types_pins.specs.declared.kind.PinKind.{PinKind}
@@ -23,16 +24,16 @@ IsBelow n place = ForSome place (λ server. server < n)
 
 -- what every view keeps
 pub record IsView (view : ViewParts) : Type 0 where
-  pub few_servers : length view.servers ≤ 128
+  pub few_servers : length view.servers ≤ MAX_SERVERS
   pub named : All (λ s. is_name s.name ≡ true) view.servers
   pub room : All (λ s. s.capacity < 2 ^ 32) view.servers
   pub distinct_servers : AllPairs (λ a b. a.name ≢ b.name) view.servers
   pub usable : (server : ℕ) → has view.usable server ≡ true → server < length view.servers
-  pub few_pins : length view.pins ≤ 16777216
+  pub few_pins : length view.pins ≤ MAX_PINS
   pub distinct_pins : AllPairs (λ a b. a.id ≢ b.id) view.pins
   pub places : All (λ pin. IsBelow (length view.servers) pin.place) view.pins
   pub cost_from : All (λ pin. 1 ≤ pin.cost) view.pins
-  pub cost_to : All (λ pin. pin.cost ≤ 1000) view.pins
+  pub cost_to : All (λ pin. pin.cost ≤ MAX_COST) view.pins
 
 -- the pin's kind, where these servers are usable
 abbrev pub kind_of : ℕ → Pin → PinKind

@@ -17,6 +17,3 @@ pub use place::{honoured, permitted};
 pub use scoring::score;
 pub use totals::Score;
 pub use view::{View, ViewServer};
-
-#[cfg(test)]
-mod tests;

@@ -1,4 +1,5 @@
 ghost use Rattle.std.specs.Prelude.{◌≡◌, ℕ, ◌≤◌, length, map, All, is_none, count_by};
+ghost use Rattle.lb_types.specs.declared.limits.TheConstants.{MAX_COST, MAX_PINS};
 ghost use Rattle.pin_set.specs.Views.{kind_of, kinds_of};
 ghost use Rattle.pin_set.specs.Assignments.{unplaced, moved, spent};
 ghost use Rattle.pin_set.specs.Rows.{score_of};
@@ -43,8 +44,8 @@ fn moved(pins: &[Pin], places: &[Place]) -> u64
 /// What the pins that change their place cost together.
 fn spent(pins: &[Pin], to: &[Place]) -> u64
     requires same { length to.now ≡ length pins.now }
-    requires few { length pins.now ≤ 16777216 }
-    requires costs { All (λ pin. pin.cost ≤ 1000) pins.now }
+    requires few { length pins.now ≤ MAX_PINS }
+    requires costs { All (λ pin. pin.cost ≤ MAX_COST) pins.now }
     ensures { (usable : ℕ) → result ≡ spent (map (kind_of usable) pins.now) to.now }
 {
     let mut spent = 0;

@@ -5,6 +5,9 @@ ghost use Rattle.rise_fall.specs.Tally.{needed};
 use crate::Flip;
 use std::marker::Model;
 
+/// The most that the settings `rise` and `fall` may be, in results in a row. The least is 1.
+pub const MAX_STREAK: u64 = 1000;
+
 /// The health of one checked server, under its settings `rise` and `fall`.
 ///
 /// It takes no memory, and each call is a few machine instructions.
@@ -35,9 +38,9 @@ impl Health {
     /// `rise` successes in a row bring a server up and `fall` failures in a row bring it down; both are 1 to 1000.
     pub fn new(rise: u16, fall: u16) -> Self
         requires rise_from { 1 ≤ rise }
-        requires rise_to { rise ≤ 1000 }
+        requires rise_to { rise ≤ MAX_STREAK }
         requires fall_from { 1 ≤ fall }
-        requires fall_to { fall ≤ 1000 }
+        requires fall_to { fall ≤ MAX_STREAK }
         ensures { StandsFor result rise fall fresh [] }
     {
         Health {

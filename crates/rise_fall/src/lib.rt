@@ -9,8 +9,5 @@ mod health;
 mod laws;
 
 pub use flip::Flip;
-pub use health::Health;
+pub use health::{Health, MAX_STREAK};
 pub use laws::each_health_has_its_results;
-
-#[cfg(test)]
-mod tests;

@@ -3,6 +3,7 @@
 use Rattle.std.specs.Prelude.{[], ◌≡◌, ℕ, Bool, not, ◌&&◌, nat_lt, Option, Some, None, Result, OnOk, OnErr, slice_get, slice_set, is_none, if◌then◌else◌}
 use Rattle.std.specs.Option.{option_map, option_map_or}
 use Rattle.std.specs.Result.{result_err}
+use Rattle.lb_types.specs.declared.limits.TheConstants.{MAX_CONNECTIONS, MAX_PINS, MAX_WEIGHT}
 use Rattle.rise_fall.specs.Tally.{Tally}
 use Rattle.rise_fall.specs.Health.{fresh, forced, tally_after}
 use Rattle.server_state.specs.Server.{ServerView, is_maint}
@@ -21,9 +22,9 @@ above limit number = if nat_lt limit number then Some OutOfRange else None
 abbrev pub fault_at : ServerView → Setting → Option ChangeFault
 fault_at server (Admin admin) = None
 fault_at server (Health up) = if is_none server.health then Some NotChecked else None
-fault_at server (Weight weight) = above 256 weight
-fault_at server (MaxConnections limit) = above 4294967295 limit
-fault_at server (MaxPins limit) = above 16777216 limit
+fault_at server (Weight weight) = above MAX_WEIGHT weight
+fault_at server (MaxConnections limit) = above MAX_CONNECTIONS limit
+fault_at server (MaxPins limit) = above MAX_PINS limit
 
 -- why the setting is refused, if it is
 abbrev pub fault_of : FarmView → ℕ → Setting → Option ChangeFault

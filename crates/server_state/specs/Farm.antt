@@ -4,6 +4,7 @@
 use Rattle.std.specs.Prelude.{◌≡◌, ◌≤◌, length, ℕ, Bool, true, false, not, List, [], ◌∷◌, filter, map, fold, take, slice_get, if◌then◌else◌}
 use Rattle.std.specs.List.{enumerate_from}
 use Rattle.std.specs.Option.{option_map_or}
+use Rattle.lb_types.specs.declared.limits.TheConstants.{MAX_SERVERS}
 use Rattle.lb_types.specs.Servers.{with_server}
 use Rattle.server_state.specs.Server.{ServerView, serves, is_main, is_spare, server_at_start}
 use Rattle.server_state.specs.declared.settings.ServerSettings.{ServerSettings}
@@ -67,5 +68,5 @@ farm_at_start settings all_backups = record { servers = map server_at_start sett
 
 -- at most 128 servers, and the set of the usable ones
 pub record IsFarm (servers : List ServerView) (all_backups : Bool) (usable_set : ℕ) : Type 0 where
-  pub few : length servers ≤ 128
+  pub few : length servers ≤ MAX_SERVERS
   pub kept : usable_set ≡ usable (record { servers = servers; all_backups = all_backups })

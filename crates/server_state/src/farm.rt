@@ -1,5 +1,6 @@
 ghost use Rattle.std.specs.Prelude.{◌≡◌, ℕ, ◌==◌, ◌≤◌, ◌↔◌, [], length, IsTrue, IfOk};
 ghost use Rattle.std.specs.List.{list_any};
+ghost use Rattle.lb_types.specs.declared.limits.TheConstants.{MAX_PINS, MAX_SERVERS, MAX_WEIGHT};
 ghost use Rattle.lb_types.specs.Servers.{has};
 
 use crate::server::Server;
@@ -46,7 +47,7 @@ impl Farm {
         settings: &[ServerSettings],
         all_backups: bool,
     ) -> Result<Farm, AllocError>
-        requires { length settings.now ≤ 128 }
+        requires { length settings.now ≤ MAX_SERVERS }
         ensures { IfOk result (λ farm. farm ≡ farm_at_start settings.now all_backups) }
     {
         let servers = Server::open_all(alloc, settings)?;
@@ -81,7 +82,7 @@ impl Farm {
     /// How many servers there are.
     pub fn len(&self) -> usize
         ensures exact { result ≡ length self.now.servers }
-        ensures few { result ≤ 128 }
+        ensures few { result ≤ MAX_SERVERS }
     {
         self.servers.len()
     }
@@ -96,7 +97,7 @@ impl Farm {
     /// The server's weight; 0 where there is no such server.
     pub fn weight(&self, server: ServerId) -> u16
         ensures exact { result ≡ weight_of self.now server }
-        ensures in_range { result ≤ 256 }
+        ensures in_range { result ≤ MAX_WEIGHT }
     {
         self.servers
             .get(server.index())
@@ -115,7 +116,7 @@ impl Farm {
     /// The server's capacity for pins; 0 where there is no such server.
     pub fn capacity(&self, server: ServerId) -> u32
         ensures exact { result ≡ capacity_of self.now server }
-        ensures in_range { result ≤ 16777216 }
+        ensures in_range { result ≤ MAX_PINS }
     {
         self.servers
             .get(server.index())

@@ -16,6 +16,3 @@ pub use change::{Change, ChangeFault, Setting};
 pub use checked::Checked;
 pub use farm::Farm;
 pub use settings::{AdminState, CheckSettings, ServerSettings};
-
-#[cfg(test)]
-mod tests;

@@ -5,6 +5,7 @@ ghost use Rattle.server_state.specs.Server.{health_at_start};
 ghost use Rattle.server_state.specs.Changes.{rewarmed, forced_to};
 
 use crate::{AdminState, ChangeFault, CheckSettings, Checked, ServerSettings, Setting};
+use lb_types::{MAX_CONNECTIONS, MAX_PINS, MAX_WEIGHT};
 use rise_fall::Health;
 use std::alloc::{AllocError, Global};
 use std::marker::Model;
@@ -35,8 +36,9 @@ impl Model for Server {
     } };
 
     ghost use Rattle.std.specs.Prelude.{◌≤◌};
+    ghost use Rattle.lb_types.specs.declared.limits.TheConstants.{MAX_PINS, MAX_WEIGHT};
 
-    ghost invariant = { λ s. (s.weight ≤ 256) × (s.max_pins ≤ 16777216) };
+    ghost invariant = { λ s. (s.weight ≤ MAX_WEIGHT) × (s.max_pins ≤ MAX_PINS) };
 }
 
 impl Server {
@@ -92,7 +94,7 @@ impl Server {
     /// The weight, 0 to 256.
     pub(crate) fn weight(&self) -> u16
         ensures exact { result ≡ self.now.weight }
-        ensures in_range { result ≤ 256 }
+        ensures in_range { result ≤ MAX_WEIGHT }
     {
         self.weight
     }
@@ -107,7 +109,7 @@ impl Server {
     /// How many pins it may hold, 0 to 16777216.
     pub(crate) fn max_pins(&self) -> u32
         ensures exact { result ≡ self.now.max_pins }
-        ensures in_range { result ≤ 16777216 }
+        ensures in_range { result ≤ MAX_PINS }
     {
         self.max_pins
     }
@@ -122,11 +124,12 @@ impl Server {
             Setting::Admin(admin) => self.set_admin(admin),
             Setting::Health(_) if self.health.is_none() => return Err(ChangeFault::NotChecked),
             Setting::Health(up) => self.health = forced(self.health, up),
-            Setting::Weight(weight) => self.weight = up_to(256, weight)? as u16,
+            Setting::Weight(weight) => self.weight = up_to(MAX_WEIGHT, weight)? as u16,
             Setting::MaxConnections(limit) => self.max_connections = up_to(
-                4294967295, limit,
+                MAX_CONNECTIONS,
+                limit,
             )? as u32,
-            Setting::MaxPins(limit) => self.max_pins = up_to(16777216, limit)? as u32,
+            Setting::MaxPins(limit) => self.max_pins = up_to(MAX_PINS, limit)? as u32,
         }
         Ok(())
     }

@@ -1,4 +1,6 @@
 ghost use Rattle.std.specs.Prelude.{◌≤◌};
+ghost use Rattle.lb_types.specs.declared.limits.TheConstants.{MAX_PINS, MAX_WEIGHT};
+ghost use Rattle.rise_fall.specs.declared.health.TheConstants.{MAX_STREAK};
 
 /// What an operator wants of a server.
 #[derive(Clone, Copy, Debug, PartialEq, Eq, Hash)]
@@ -44,9 +46,9 @@ pub struct CheckSettings {
     /// 1 to 1000.
     pub fall: u16,
     pub ghost rise_from: { 1 ≤ rise },
-    pub ghost rise_to: { rise ≤ 1000 },
+    pub ghost rise_to: { rise ≤ MAX_STREAK },
     pub ghost fall_from: { 1 ≤ fall },
-    pub ghost fall_to: { fall ≤ 1000 },
+    pub ghost fall_to: { fall ≤ MAX_STREAK },
 }
 
 /// A server as the configuration has it.
@@ -64,6 +66,6 @@ pub struct ServerSettings {
     pub backup: bool,
     /// How its checks count, or `None` for a server that is never checked and counts as available.
     pub check: Option<CheckSettings>,
-    pub ghost weight_in_range: { weight ≤ 256 },
-    pub ghost max_pins_in_range: { max_pins ≤ 16777216 },
+    pub ghost weight_in_range: { weight ≤ MAX_WEIGHT },
+    pub ghost max_pins_in_range: { max_pins ≤ MAX_PINS },
 }

@@ -1,4 +1,5 @@
 ghost use Rattle.std.specs.Prelude.{◌≡◌, ◌≤◌, ◌&&◌, ◌||◌, ◌==◌, length, if◌then◌else◌};
+ghost use Rattle.lb_types.specs.declared.limits.TheConstants.{MAX_SERVERS};
 ghost use Rattle.lb_types.specs.Servers.{with_server};
 ghost use Rattle.server_state.specs.Server.{is_main, is_spare};
 ghost use Rattle.server_state.specs.Farm.{usable};
@@ -8,7 +9,7 @@ use lb_types::{ServerId, ServerSet};
 
 /// The usable servers, in one walk.
 pub(crate) fn usable_among(servers: &[Server], all_backups: bool) -> ServerSet
-    requires { length servers.now ≤ 128 }
+    requires { length servers.now ≤ MAX_SERVERS }
     ensures { result ≡ usable (record { servers = servers.now; all_backups = all_backups }) }
 {
     let mut found = Found {

@@ -1,7 +1,7 @@
 use Rattle.std.proofs.Common.{sym, ap, subst, ◌∙◌, arith}
 use Rattle.flow_planner_net.specs.Networks.{IsNetwork}
-use Rattle.flow_planner_accepted.specs.Accepted.{capacities_of, unplaced_cost_of}
-use Rattle.flow_planner_accepted.proofs.Lawful.{network-lawful}
+use Rattle.flow_planner_law.specs.Accepted.{capacities_of, unplaced_cost_of}
+use Rattle.flow_planner_law.proofs.Lawful.{network-lawful}
 use Rattle.flow_planner.proofs.Writing.{network-is}
 use Rattle.flow_planner.proofs.planner.plan.Goals as goal
 

@@ -4,7 +4,7 @@ use Rattle.lb_types_pins.specs.declared.kind.Group.{Group}
 use Rattle.flow_planner_net.specs.Networks.{NetworkParts}
 use Rattle.flow_planner_repair.specs.LeastArcs.{ArcsParts}
 use Rattle.flow_planner_repair.specs.Repairs.{most_looks}
-use Rattle.flow_planner_accepted.specs.Accepted.{network_of}
+use Rattle.flow_planner_law.specs.Accepted.{network_of}
 use Rattle.flow_planner.specs.Plannings.{PlannedParts}
 use Rattle.flow_planner.proofs.Writing.{planned-lawful, pins-are, all_looks-le}
 use Rattle.flow_planner.proofs.planner.planned.Goals as goal

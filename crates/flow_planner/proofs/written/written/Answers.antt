@@ -2,7 +2,7 @@ use Rattle.std.proofs.Common.{List, sym, ap, subst, ◌∙◌}
 use Rattle.dual_cert_plan.specs.declared.server.Server.{Server}
 use Rattle.dual_cert_plan.specs.Plans.{PlanParts, plan_of_parts}
 use Rattle.flow_planner_net.specs.States.{at}
-use Rattle.flow_planner_accepted.specs.Accepted.{IsAccepted}
+use Rattle.flow_planner_law.specs.Accepted.{IsAccepted}
 use Rattle.flow_planner.specs.Plannings.{priced_servers}
 use Rattle.flow_planner.proofs.Writing.{parts-accepted}
 use Rattle.flow_planner.proofs.written.written.Goals as goal

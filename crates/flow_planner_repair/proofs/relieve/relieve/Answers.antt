@@ -7,7 +7,7 @@ use Rattle.flow_planner_repair.specs.Searches.{dist}
 use Rattle.flow_planner_repair.specs.Pushes.{raised}
 use Rattle.flow_planner_repair.proofs.Labels.{dist-is}
 use Rattle.flow_planner_repair.proofs.PriceSteps.{raised_cheapest, raised_priced, raised_trail, raised_tight}
-use Rattle.flow_planner_repair.proofs.StateSteps.{load-le}
+use Rattle.flow_planner_net.proofs.Loads.{load-le}
 use Rattle.flow_planner_repair.proofs.RelieveSteps.{relieved_state, relieved_fits, relieved_less}
 use Rattle.flow_planner_repair.proofs.ForgetSteps.{forgotten_kept}
 use Rattle.flow_planner_repair.proofs.relieve.relieve.Goals as goal

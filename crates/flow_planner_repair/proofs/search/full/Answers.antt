@@ -1,7 +1,7 @@
 use Rattle.std.proofs.Common.{arith}
 use Rattle.flow_planner_net.proofs.Tables.{at-read}
 use Rattle.flow_planner_net.proofs.Numbers.{cost-le}
-use Rattle.flow_planner_repair.proofs.SearchSteps.{full-is}
+use Rattle.flow_planner_net.proofs.Loads.{full-is}
 use Rattle.flow_planner_net.specs.States.{at}
 use Rattle.flow_planner_repair.proofs.search.full.Goals as goal
 

@@ -1,5 +1,5 @@
 use Rattle.std.proofs.Common.{arith, sym, ◌∙◌}
-use Rattle.lb_config_references.specs.Names.{backend_name}
+use Rattle.lb_config_sections.specs.Names.{backend_name}
 use Rattle.lb_config.proofs.Steps.{gather_more, gather_end}
 use Rattle.lb_config.proofs.names.backend_names.Goals as goal
 

@@ -1,6 +1,6 @@
 use Rattle.std.proofs.Common.{◌≡◌, ◌++◌, drop}
 use Rattle.std.specs.List.{filter_map}
-use Rattle.lb_config_references.specs.Names.{backend_name}
+use Rattle.lb_config_sections.specs.Names.{backend_name}
 use Rattle.lb_config.proofs.names.backend_names.Given as goal
 
 abbrev pub invariant-loop-section : goal.invariant-loop-section

@@ -1,5 +1,5 @@
 use Rattle.std.proofs.Common.{◌≡◌, drop}
-use Rattle.lb_config_sections.specs.Drafts.{lines_behind, no_lines}
+use Rattle.lb_config_sections.specs.SectionsSoFar.{lines_behind, no_lines}
 use Rattle.lb_config_sections.proofs.sections.read_draft.Given as goal
 
 abbrev pub invariant-loop-line : goal.invariant-loop-line

@@ -1,5 +1,5 @@
 use Rattle.std.proofs.Common.{◌≡◌, drop}
-use Rattle.lb_config_server.specs.Options.{no_options}
+use Rattle.lb_config_parameters.specs.Options.{no_options}
 use Rattle.lb_config_values.specs.Servers.{default_options}
 use Rattle.lb_config_values.proofs.servers.default_options.Given as goal
 

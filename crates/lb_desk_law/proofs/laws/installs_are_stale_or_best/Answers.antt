@@ -1,24 +1,14 @@
-use Rattle.std.proofs.Common.{◌≡◌, ◌≢◌, ◌<◌, ◌≤◌, arith}
 use Rattle.lb_desk_model.specs.States.{opening}
 use Rattle.lb_desk_law.proofs.Apart.{history-apart}
-use Rattle.lb_desk_law.proofs.Installs.{outcome, outcome-moved, outcome-best, stale-exactly, bad-exactly}
-use Rattle.lb_desk_law.proofs.Versions.{history-version, changed-grows, grown-changed}
+use Rattle.lb_desk_law.proofs.Installs.{outcome, outcome-moved, outcome-best, stale-exactly, stale-once-changed, bad-exactly}
 use Rattle.lb_desk_law.proofs.laws.installs_are_stale_or_best.Goals as goal
 
 pub returns-clause-stale : goal.returns-clause-stale
 returns-clause-stale c = λ backend entries old plan reply new history step. stale-exactly old plan reply new step
 
 pub returns-clause-changed : goal.returns-clause-changed
-returns-clause-changed c = λ backend early late point old plan reply new history since step version.
-    let stale = stale-exactly old plan reply new step in
-    let later : point.version ≤ old.version = history-version point late old since in (
-      λ e.
-          let other : plan.version ≢ old.version = stale.exact.0 e in
-          grown-changed point late old since (omega (arith, other)),
-      λ changed.
-          let grown : point.version < old.version = changed-grows point late old since changed in
-          stale.exact.1 (λ (same : plan.version ≡ old.version). omega (arith, same)),
-    )
+returns-clause-changed c = λ backend early late point old plan reply new history since step.
+    stale-once-changed point late old plan reply new since step
 
 pub returns-clause-kept : goal.returns-clause-kept
 returns-clause-kept c = λ backend entries old plan reply new history step score e.

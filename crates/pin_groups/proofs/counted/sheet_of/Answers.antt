@@ -1,5 +1,5 @@
 use Rattle.std.proofs.Common.{◌≡◌, refl, ◌∙◌}
-use Rattle.pin_groups_sheet.specs.Sheets.{listed_servers}
+use Rattle.cert_check_law.specs.Sheets.{listed_servers}
 use Rattle.pin_groups.proofs.Sheets.{is_sheet}
 use Rattle.pin_groups.proofs.Tally.{groups-counted, counts-few}
 use Rattle.pin_groups.proofs.counted.sheet_of.Goals as goal

@@ -3,7 +3,7 @@ use Rattle.std.proofs.lemmas.List.{take_more, take_all}
 use Rattle.pin_set.specs.declared.view.ViewServer.{ViewServer}
 use Rattle.dual_cert_plan.specs.declared.server.Server.{Server}
 use Rattle.std.proofs.Common.{List}
-use Rattle.pin_groups_sheet.specs.Sheets.{listed_server, listed_servers}
+use Rattle.cert_check_law.specs.Sheets.{listed_server, listed_servers}
 use Rattle.pin_groups.proofs.Sheets.{length-listed, get_or-listed}
 use Rattle.pin_groups.proofs.listed.listed_servers.Goals as goal
 

@@ -1,6 +1,6 @@
 use Rattle.std.proofs.Common.{◌≡◌, take, map}
 use Rattle.std.specs.List.{enumerate_from}
-use Rattle.pin_groups_sheet.specs.Sheets.{listed_server}
+use Rattle.cert_check_law.specs.Sheets.{listed_server}
 use Rattle.pin_groups.proofs.listed.listed_servers.Given as goal
 
 abbrev pub invariant-loop-i : goal.invariant-loop-i

@@ -23,11 +23,13 @@ returns c =
     omega (arith, c.self.inside.pins.ok.0, ap length c.deref_mut.ensures.value) in (
       sym c.version.ensures ∙ (c.if-version-self.false ∙ ap (λ (s : State). s.version) c.self.view_is),
       record {
-        accepted = c.in-Ok.score;
-        judges = record { sheet = c.in_ok-sheet.sheet; of = c.in_ok-sheet.ensures; verdict = sym c.in-Ok.ensures.exact };
         places = places;
-        agrees = agrees;
-        score_is = c.in-Ok.ensures.score ∙ sym (c.in-Ok.ensures.best.score (view_of old) places c.in_ok-sheet.ensures.stands agrees);
+        moves = record {
+          accepted = c.in-Ok.score;
+          judges = record { sheet = c.in_ok-sheet.sheet; of = c.in_ok-sheet.ensures; verdict = sym c.in-Ok.ensures.exact };
+          agrees = agrees;
+          score_is = c.in-Ok.ensures.score ∙ sym (c.in-Ok.ensures.best.score (view_of old) places c.in_ok-sheet.ensures.stands agrees);
+        };
         new_is = ap (λ (s : State). record s { pins = (with_items c.self.inside.pins c.put_at.new.pins).items }) c.self.view_is
             ∙ ap (λ (pins : List TablePin). record old { pins = pins }) (with_items_is c.self.inside.pins c.put_at.new.pins long ∙ pins_are);
       },

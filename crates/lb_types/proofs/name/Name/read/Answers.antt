@@ -24,12 +24,12 @@ invariant_of-result c =
     let bytes = c.args.bytes.now in
     let lawful = sym c.is_lawful.ensures ∙ c.if-not-is_lawful.false in
     let some = sym c.is_empty.ensures ∙ c.if-is_empty.false in
-    let name = is_name-from_tests bytes some c.if-bytes-gt64.false lawful in
-    rw c.padded.ensures (stored bytes c.if-bytes-gt64.false name)
+    let name = is_name-from_tests bytes some c.if-bytes-gt-MAX_NAME_BYTES.false lawful in
+    rw c.padded.ensures (stored bytes c.if-bytes-gt-MAX_NAME_BYTES.false name)
 
 pub returns : goal.returns
 returns c =
     let bytes = c.args.bytes.now in
     let lawful = sym c.is_lawful.ensures ∙ c.if-not-is_lawful.false in
     let some = sym c.is_empty.ensures ∙ c.if-is_empty.false in
-    rw (c.padded.ensures, take-padded bytes) (sym (name_of-from_tests bytes some c.if-bytes-gt64.false lawful))
+    rw (c.padded.ensures, take-padded bytes) (sym (name_of-from_tests bytes some c.if-bytes-gt-MAX_NAME_BYTES.false lawful))

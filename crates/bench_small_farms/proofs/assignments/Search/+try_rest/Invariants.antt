@@ -1,5 +1,0 @@
-use Rattle.std.proofs.Common.{length}
-use Rattle.bench_small_farms.proofs.assignments.Search.+try_rest.Given as goal
-
-abbrev pub decreases-try_rest : goal.decreases-try_rest
-decreases-try_rest l = length l.pins.now

@@ -1,0 +1,70 @@
+use cert_check::{CheckFault, check};
+use dual_cert::{read_plan, read_sheet};
+use pin_set::Score;
+use std::alloc::{AllocError, Global};
+use std::test::Fail;
+
+/// The verdict in the words of the worked texts.
+pub(crate) fn line_of(
+    alloc: Global,
+    verdict: Result<Score, CheckFault>,
+) -> Result<String, AllocError> {
+    let Score {
+        pins,
+        unplaced,
+        moved,
+        cost,
+    } = match verdict {
+        Ok(score) => score,
+        Err(fault) => return String::from_str(alloc, fault.text()),
+    };
+    if cost == moved {
+        format!(in alloc; "best pins {pins} unplaced {unplaced} moved {moved}")
+    } else {
+        format!(in alloc; "best pins {pins} unplaced {unplaced} moved {moved} cost {cost}")
+    }
+}
+
+// Versions and prices aren't compared; servers, capacities and pins by kind are.
+#[test]
+fn a_plan_is_for_one_sheet_alone(rt: HostRuntime) -> Result<(), Fail> {
+    let plan = b"stickyplan 1\nversion 0\nserver a cap 1 price 0\nrow 1 a a a\nend\n";
+    let plan = read_plan(rt.alloc(), plan)?;
+    let cases = [
+        (
+            "stickysheet 1\nversion 0\nserver a cap 1\ngroup 1 a a\nend\n",
+            "best pins 1 unplaced 0 moved 0",
+        ),
+        (
+            "stickysheet 1\nversion 7\nserver a cap 1\ngroup 1 a a\nend\n",
+            "best pins 1 unplaced 0 moved 0",
+        ),
+        (
+            "stickysheet 1\nversion 0\nserver a cap 2\ngroup 1 a a\nend\n",
+            "50 RowsDiffer",
+        ),
+        (
+            "stickysheet 1\nversion 0\nserver a cap 1\ngroup 2 a a\nend\n",
+            "50 RowsDiffer",
+        ),
+        (
+            "stickysheet 1\nversion 0\nserver b cap 1\ngroup 1 b b\nend\n",
+            "50 RowsDiffer",
+        ),
+        (
+            "stickysheet 2\nversion 0\nserver a cap 1\ngroup 1 a a 2\nend\n",
+            "50 RowsDiffer",
+        ),
+    ];
+    for (text, line) in cases {
+        let sheet = read_sheet(rt.alloc(), text.as_bytes())?;
+        let verdict = line_of(rt.alloc(), check(&sheet, &plan))?;
+        assert_eq!(rt; verdict.as_str(), line, "{text}");
+    }
+    // A price of 5 at the server shows nothing for this sheet, and the sheet of that plan is the same.
+    let priced = b"stickyplan 1\nversion 7\nserver a cap 1 price 5\nrow 1 a a a\nend\n";
+    let sheet = read_plan(rt.alloc(), priced)?.sheet(rt.alloc())?;
+    let verdict = line_of(rt.alloc(), check(&sheet, &plan))?;
+    assert_eq!(rt; verdict.as_str(), "best pins 1 unplaced 0 moved 0");
+    Ok(())
+}

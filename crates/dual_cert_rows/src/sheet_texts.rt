@@ -1,0 +1,139 @@
+use crate::sheets;
+use dual_cert::{ReadError, read_sheet, write_sheet};
+use lb_types::{Counted, Place, ServerId, ServerSet};
+use lb_types_pins::{Group, PinKind};
+use std::alloc::Global;
+use std::process::Abort;
+use std::test::Fail;
+
+/// Asserts that the text is read as a sheet of this version, with these servers and groups.
+fn assert_read(
+    rt: &impl Abort,
+    alloc: Global,
+    text: &str,
+    version: u64,
+    servers: &[(&str, Option<u32>)],
+    groups: &[Group],
+) -> Result<(), ReadError> {
+    let sheet = read_sheet(alloc, text.as_bytes())?;
+    assert_eq!(rt; sheet.version(), version, "{text}");
+    assert_eq!(rt; sheet.servers().len(), servers.len(), "{text}");
+    for (read, (name, capacity)) in sheet.servers().iter().zip(servers) {
+        assert_eq!(rt; read.name.as_bytes(), name.as_bytes(), "{text}");
+        assert_eq!(rt; read.capacity, *capacity, "{text}");
+    }
+    assert_eq!(rt; sheet.groups(), groups, "{text}");
+    Ok(())
+}
+
+fn group(count: u32, place: Place, permitted: ServerSet, cost: u16) -> Group {
+    Group {
+        kind: PinKind {
+            place,
+            permitted,
+            cost,
+        },
+        count,
+    }
+}
+
+#[test]
+fn sheets_are_read(rt: HostRuntime) -> Result<(), Fail> {
+    let [a, b, c] = [ServerId::new(0), ServerId::new(1), ServerId::new(2)];
+    let none = ServerSet::empty();
+    let alloc = rt.alloc();
+    let text = "stickysheet 1\nversion 0\nserver a cap 2\nend\n";
+    assert_read(&rt, alloc, text, 0, &[("a", Some(2))], &[])?;
+    let text = "stickysheet 1\nversion 1\nserver a off\nserver b cap 1\nserver c cap 1\n\
+        group 1 a b\ngroup 1 b b,c\nend\n";
+    let servers = [("a", None), ("b", Some(1)), ("c", Some(1))];
+    let groups = [
+        group(1, Some(a), none.with(b), 1),
+        group(1, Some(b), none.with(b).with(c), 1),
+    ];
+    assert_read(&rt, alloc, text, 1, &servers, &groups)?;
+    let text = "stickysheet 1\nversion 1\nserver a off\nserver b cap 1\ngroup 2 a b\nend\n";
+    let groups = [group(2, Some(a), none.with(b), 1)];
+    assert_read(&rt, alloc, text, 1, &[("a", None), ("b", Some(1))], &groups)?;
+    let text = "stickysheet 2\nversion 7\nserver a off\nserver b cap 1\nserver c cap 4\n\
+        group 3 - c 1\ngroup 1 a - 3\ngroup 2 b b,c 1000\nend\n";
+    let servers = [("a", None), ("b", Some(1)), ("c", Some(4))];
+    let groups = [
+        group(3, None, none.with(c), 1),
+        group(1, Some(a), none, 3),
+        group(2, Some(b), none.with(b).with(c), 1000),
+    ];
+    assert_read(&rt, alloc, text, 7, &servers, &groups)?;
+    Ok(())
+}
+
+/// The sheet is written as it was read.
+fn expect_sheet(rt: &impl Abort, alloc: Global, text: &str) -> Result<(), Fail> {
+    let sheet = read_sheet(alloc, text.as_bytes())?;
+    let mut out = Counted::new(Vec::new(alloc));
+    write_sheet(&sheet, &mut out)?;
+    assert_eq!(rt; out.into_inner().as_slice(), text.as_bytes(), "{text}");
+    Ok(())
+}
+
+#[test]
+fn sheets_go_round(rt: HostRuntime) -> Result<(), Fail> {
+    for (text, _line) in sheets::SHEETS {
+        expect_sheet(&rt, rt.alloc(), text)?;
+    }
+    for (count, lines, _line) in sheets::OF_MANY_SERVERS {
+        let text = sheets::sheet_of_servers(rt.alloc(), count, lines)?;
+        expect_sheet(&rt, rt.alloc(), &text)?;
+    }
+    Ok(())
+}
+
+/// The first fault is this one.
+fn expect_fault(rt: &impl Abort, alloc: Global, text: &[u8], fault: &str) -> Result<(), Fail> {
+    match read_sheet(alloc, text) {
+        Ok(_) => Err(Fail::new("the text is a sheet's")),
+        Err(ReadError::Memory) => Err(Fail::new("out of memory")),
+        Err(ReadError::Fault(found)) => {
+            assert_eq!(rt; found.text(alloc)?.as_str(), fault, "{text:?}");
+            Ok(())
+        }
+    }
+}
+
+/// Each case is some lines behind those in front, and the first fault.
+fn expect_faults(
+    rt: &impl Abort,
+    alloc: Global,
+    front: &str,
+    cases: &[(&str, &str)],
+) -> Result<(), Fail> {
+    for (lines, fault) in cases {
+        let text = sheets::sheet_of_lines(alloc, front, lines)?;
+        expect_fault(rt, alloc, text.as_bytes(), fault)?;
+    }
+    Ok(())
+}
+
+#[test]
+fn texts_that_are_no_sheets_have_their_first_faults(rt: HostRuntime) -> Result<(), Fail> {
+    for (text, fault) in sheets::NO_SHEETS {
+        expect_fault(&rt, rt.alloc(), text.as_bytes(), fault)?;
+    }
+    expect_faults(&rt, rt.alloc(), sheets::ONE_SERVER, &sheets::BAD_SERVERS)?;
+    expect_faults(&rt, rt.alloc(), sheets::THREE_SERVERS, &sheets::BAD_GROUPS)?;
+    expect_faults(&rt, rt.alloc(), sheets::WITH_COSTS, &sheets::BAD_COSTS)?;
+    for (count, lines, fault) in sheets::NO_SHEETS_OF_MANY_SERVERS {
+        let text = sheets::sheet_of_servers(rt.alloc(), count, lines)?;
+        expect_fault(&rt, rt.alloc(), text.as_bytes(), fault)?;
+    }
+    let text = sheets::sheet_of_a_thousand_digits(rt.alloc())?;
+    expect_fault(&rt, rt.alloc(), text.as_bytes(), "41 TooLarge")?;
+    // Each shorter beginning of a sheet's text.
+    let text = b"stickysheet 2\nversion 7\nserver a off\nserver b cap 1\nserver c cap 4\n\
+        group 1 a b 3\ngroup 2 b b,c 1\nend\n"
+        .as_slice();
+    for length in 0..text.len() {
+        expect_fault(&rt, rt.alloc(), &text[..length], "43 Truncated")?;
+    }
+    Ok(())
+}

@@ -1,5 +1,0 @@
-use Rattle.flow_planner_accepted.proofs.Accepting.{plans_are_accepted}
-use Rattle.flow_planner_accepted.proofs.laws.plans_are_accepted.Goals as goal
-
-pub returns : goal.returns
-returns c = plans_are_accepted

@@ -1,5 +1,0 @@
-use Rattle.flow_planner_shown.proofs.Shown.{states_are_shown}
-use Rattle.flow_planner_shown.proofs.laws.states_are_shown.Goals as goal
-
-pub returns : goal.returns
-returns c = states_are_shown

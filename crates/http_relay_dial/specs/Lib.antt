@@ -1,0 +1,2 @@
+pub mod Dials
+pub mod Scripted

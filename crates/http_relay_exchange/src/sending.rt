@@ -1,0 +1,41 @@
+ghost use Rattle.std.specs.Prelude.{◌≡◌};
+ghost use Rattle.http_relay_dial.specs.Dials.{talk_of};
+ghost use Rattle.http_relay_exchange.specs.Exchanges.{Invites, Sent};
+
+use crate::{Outgoing, SendFault};
+use http_relay_body::send_body;
+use http_relay_forward::continue_text;
+use http_relay_wire::{Wire, WireFault, write_all};
+
+/// Sends the request: the client is told to go on where it waits for that, and then head and body go to the server.
+pub(crate) fn send_request<C: Wire, S: Wire>(
+    request: &Outgoing<'_>,
+    client: &mut C,
+    server: &mut S,
+) -> Result<(), SendFault>
+    ensures { Sent request.now
+        (talk_of C.written C.reading C.faults client.old) (talk_of C.written C.reading C.faults client.new)
+        (talk_of S.written S.reading S.faults server.old) (talk_of S.written S.reading S.faults server.new) result }
+{
+    if let Err(fault) = invite(request, client) {
+        return Err(SendFault::Continue(fault));
+    }
+    if let Err(fault) = write_all(server, request.head()) {
+        return Err(SendFault::Head(fault));
+    }
+    match send_body(request.kind(), request.behind(), client, server) {
+        Ok(()) => Ok(()),
+        Err(fault) => Err(SendFault::Body(fault)),
+    }
+}
+
+/// Tells the client to go on, where it waits for that.
+fn invite<C: Wire>(request: &Outgoing<'_>, client: &mut C) -> Result<(), WireFault>
+    ensures { Invites request.now
+        (talk_of C.written C.reading C.faults client.old) (talk_of C.written C.reading C.faults client.new) result }
+{
+    if !request.expects_continue() {
+        return Ok(());
+    }
+    write_all(client, continue_text())
+}

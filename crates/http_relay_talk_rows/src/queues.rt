@@ -1,0 +1,62 @@
+use http_relay_queue::{Waited, open_in_queue};
+use lb_desk_ports::{
+    Asked, Filed, Port, PortScript, ScriptedClock, ScriptedOpening, ScriptedPort, Shut,
+};
+use lb_types::ServerId;
+
+const FULL: ScriptedOpening = ScriptedOpening::Full;
+
+// How a wait ended.
+#[derive(Clone, Copy, Debug, PartialEq, Eq)]
+enum End {
+    Opened,
+    NotServing,
+    Over,
+    Refused,
+}
+
+// The clock moves by the pauses alone. The server is asked at once, and then 50 ms after each Full, until the wait is over.
+#[test]
+fn a_full_server_is_asked_every_50_milliseconds(rt: HostRuntime) {
+    let cases = [
+        (
+            Some(120),
+            [FULL; 9].as_slice(),
+            End::Over,
+            [0, 50, 100, 150].as_slice(),
+        ),
+        (Some(100), &[FULL; 9], End::Over, &[0, 50, 100]),
+        (Some(0), &[FULL; 9], End::Over, &[0]),
+        (Some(120), &[FULL; 2], End::Opened, &[0, 50]),
+        (None, &[FULL; 5], End::Opened, &[0, 50, 100, 150, 200]),
+        (Some(120), &[], End::Opened, &[]),
+        (
+            Some(120),
+            &[FULL, ScriptedOpening::NotServing],
+            End::NotServing,
+            &[0],
+        ),
+    ];
+    for (limit, openings, end, told) in cases {
+        let script = PortScript {
+            asked: Asked::NoServer,
+            openings,
+            shut: Shut::Closed,
+            filed: Filed::NotChecked,
+            refusing: None,
+        };
+        let mut port = ScriptedPort::new(rt.alloc(), &script);
+        let mut clock = ScriptedClock::new(rt.alloc(), 0);
+        let waited = open_in_queue(&rt, &mut port, &mut clock, ServerId::new(3), limit);
+        let ended = match waited {
+            Ok(Waited::Opened(slot)) => {
+                let _shut = port.shut(&rt, slot);
+                End::Opened
+            }
+            Ok(Waited::NotServing) => End::NotServing,
+            Ok(Waited::Over) => End::Over,
+            Err(_) => End::Refused,
+        };
+        assert!(rt; ended == end && clock.told() == Some(told), "{limit:?}");
+    }
+}

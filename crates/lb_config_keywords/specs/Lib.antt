@@ -1,0 +1,4 @@
+pub mod Keywords
+pub mod SecondWords
+pub mod Sections
+pub mod SettingLines

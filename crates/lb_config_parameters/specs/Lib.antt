@@ -1,0 +1,5 @@
+pub mod Options
+pub mod OptionsView
+pub mod ServerLines
+pub mod StickTables
+pub mod TableViews

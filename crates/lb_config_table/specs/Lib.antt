@@ -1,2 +1,0 @@
-pub mod StickTables
-pub mod TableViews

@@ -1,0 +1,7 @@
+pub mod Balances
+pub mod Freest
+pub mod Lists
+pub mod Permitted
+pub mod Ranges
+pub mod Rounds
+pub mod Sights

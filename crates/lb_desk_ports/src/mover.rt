@@ -1,0 +1,33 @@
+ghost use Rattle.std.specs.Prelude.{◌≡◌, ◌++◌, ℕ, List};
+ghost use Rattle.lb_desk_model.specs.declared.entry.Entry.{Entry};
+ghost use Rattle.lb_desk_ports.specs.Calls.{after_call};
+ghost use Rattle.lb_desk_ports.specs.Movers.{snapshot_entries, installing_entries, PlansNow};
+
+use crate::{Installing, Refused};
+use dual_cert_plan::{Plan, Sheet};
+use pin_set::Score;
+
+/// A backend, as a planner sees it. A call that is refused for want of memory or wear makes no event.
+pub trait Mover<R> {
+    /// The events that were made through this mover, each with its reply, in their order. They stand in the backend's journal,
+    /// those of others between them.
+    ghost entries: { Self → List Entry };
+
+    /// How many calls were refused. A count that has reached 2^64 - 1 stays there.
+    ghost refusals: { Self → ℕ };
+
+    /// The sheet of the pins as they stand now.
+    fn snapshot(&mut self, rt: &R) -> Result<Sheet, Refused>
+        ensures entries { entries self.new ≡ entries self.old ++ snapshot_entries result }
+        ensures refusals { refusals self.new ≡ after_call result (refusals self.old) };
+
+    /// Makes the plan's moves, if the pins still stand as its sheet says.
+    fn install(&mut self, rt: &R, plan: Plan) -> Result<Installing, Refused>
+        ensures entries { entries self.new ≡ entries self.old ++ installing_entries plan result }
+        ensures refusals { refusals self.new ≡ after_call result (refusals self.old) };
+
+    /// Takes a sheet, plans, and makes the moves while everyone else waits, so that no plan can go stale.
+    fn plan_now(&mut self, rt: &R) -> Result<Score, Refused>
+        ensures entries { PlansNow (entries self.old) (entries self.new) result }
+        ensures refusals { refusals self.new ≡ after_call result (refusals self.old) };
+}

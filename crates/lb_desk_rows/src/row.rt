@@ -1,0 +1,123 @@
+//! A row, and how it is played.
+
+use crate::asked::{Ask, Said, in_short};
+use crate::farms::{Farm, TWO, server};
+use lb_desk_model::{Event, Reply};
+use lb_desk_plain::Machine;
+use lb_desk_plain_events::MachineState;
+use pin_set::PinKey;
+use std::alloc::Global;
+use std::process::Abort;
+use std::test::Fail;
+
+/// The key of a pin, its server and its last use.
+pub(crate) type Pinned = (&'static str, u8, u64);
+
+/// A backend, and events with the reply that it owes to each.
+#[derive(Clone, Copy, Debug)]
+pub(crate) struct Row {
+    pub name: &'static str,
+    pub farm: Farm,
+    pub steps: &'static [(Ask, Said)],
+    /// The pins in the end, in order of last use, where the row looks at them.
+    pub pins: Option<&'static [Pinned]>,
+    /// Whether these servers serve in the end.
+    pub serving: &'static [(u8, bool)],
+}
+
+/// Two servers, of which nothing is asked.
+pub(crate) const ROW: Row = Row {
+    name: "",
+    farm: TWO,
+    steps: &[],
+    pins: None,
+    serving: &[],
+};
+
+/// Takes each row's events in turn, and compares the replies. Then it takes them in one run.
+pub(crate) fn play(rt: &impl Abort, alloc: Global, rows: &[Row]) -> Result<(), Fail> {
+    for row in rows {
+        let mut events = Vec::new(alloc);
+        for (ask, _) in row.steps {
+            events.push(ask.event(alloc)?)?;
+        }
+        let mut machine = row.farm.machine(alloc)?;
+        for (event, step) in events.iter().zip(row.steps) {
+            let reply = machine.step(alloc, event)?;
+            assert_eq!(rt; in_short(&reply), step.1, "{}: {step:?}", row.name);
+        }
+        let copy = machine.state().copied(alloc)?;
+        assert!(rt; ends_as(row, &copy), "{}", row.name);
+        let replies = row.farm.machine(alloc)?.run(alloc, &events)?;
+        assert!(rt; are_said(&replies, row.steps), "{} as a run", row.name);
+    }
+    Ok(())
+}
+
+fn are_said(replies: &[Reply], steps: &[(Ask, Said)]) -> bool {
+    if replies.len() != steps.len() {
+        return false;
+    }
+    for (reply, step) in replies.iter().zip(steps) {
+        if in_short(reply) != step.1 {
+            return false;
+        }
+    }
+    true
+}
+
+/// Whether the row's pins and serving servers are those of the state.
+fn ends_as(row: &Row, state: &MachineState) -> bool {
+    for (at, up) in row.serving {
+        if state.serving(server(*at)) != *up {
+            return false;
+        }
+    }
+    match row.pins {
+        Some(pins) => has_pins(state, pins),
+        None => true,
+    }
+}
+
+/// Whether these are all pins, each wanting no server.
+fn has_pins(state: &MachineState, wanted: &[Pinned]) -> bool {
+    let pins = state.pins();
+    if pins.len() != wanted.len() {
+        return false;
+    }
+    for (pin, (key, at, used)) in pins.iter().zip(wanted) {
+        let same = match &pin.pin.id.key {
+            PinKey::Text(text) => text.as_bytes() == key.as_bytes(),
+            PinKey::Ipv4(_) => false,
+        };
+        if !same
+            || !pin.pin.id.want.is_empty()
+            || pin.pin.place != Some(server(*at))
+            || pin.last_use.as_millis() != *used
+        {
+            return false;
+        }
+    }
+    true
+}
+
+/// A backend, and events with the version after each.
+#[derive(Clone, Copy, Debug)]
+pub(crate) struct Counted {
+    pub name: &'static str,
+    pub farm: Farm,
+    pub steps: &'static [(Ask, u64)],
+}
+
+/// Takes each row's events in turn, and compares the version after each.
+pub(crate) fn count(rt: &impl Abort, alloc: Global, rows: &[Counted]) -> Result<(), Fail> {
+    for row in rows {
+        let mut machine = row.farm.machine(alloc)?;
+        for step in row.steps {
+            let event = step.0.event(alloc)?;
+            let _ = machine.step(alloc, &event)?;
+            assert_eq!(rt; machine.state().version(), step.1, "{}: {step:?}", row.name);
+        }
+    }
+    Ok(())
+}

@@ -1,0 +1,30 @@
+ghost use Rattle.lb_desk_seen.specs.Changes.{SettingsAreSeen, ResultsAreSeen, ServersAreSeen, ConnectionsAreSeen, ViewsAreSeen, ActsAreCounted};
+ghost use Rattle.lb_desk_seen.specs.Replies.{RepliesTellViews, RepliesTellVersions};
+ghost use Rattle.lb_desk_seen.specs.Reached.{OpeningIsShown, StepsAreShown, OldestIsForgotten, ShownViewsAreLawful};
+
+/// Seeing a server after a change, a check's result or a connection is changing what is seen of it; a state's view, and
+/// whether it changes, can be told from what is seen.
+pub fn changes_are_seen()
+    ensures settings { SettingsAreSeen }
+    ensures results { ResultsAreSeen }
+    ensures servers { ServersAreSeen }
+    ensures connections { ConnectionsAreSeen }
+    ensures views { ViewsAreSeen }
+    ensures counted { ActsAreCounted }
+{}
+
+/// Whether an event behind a history changed the view, and so the version, is told by its reply: a pin was moved or made,
+/// pins went, a plan moved some, or other servers are usable or another capacity is set.
+pub fn replies_tell_changes()
+    ensures views { RepliesTellViews }
+    ensures versions { RepliesTellVersions }
+{}
+
+/// A desk whose events are steps of each state that it shows, and which journals them, stands at the end of a log: its
+/// journal is the log's tail, and its view is lawful.
+pub fn desks_go_on()
+    ensures opening { OpeningIsShown }
+    ensures steps { StepsAreShown }
+    ensures forgets { OldestIsForgotten }
+    ensures lawful { ShownViewsAreLawful }
+{}

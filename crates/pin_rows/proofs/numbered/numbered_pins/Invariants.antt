@@ -1,6 +1,0 @@
-use Rattle.std.proofs.Common.{◌≡◌, length, map, take}
-use Rattle.pin_rows.specs.Numbered.{AreNumberedPins, plain_of}
-use Rattle.pin_rows.proofs.numbered.numbered_pins.Given as goal
-
-abbrev pub invariant-loop-i : goal.invariant-loop-i
-invariant-loop-i l = (length l.pins.items ≡ l.i) × AreNumberedPins l.n l.pins.items × (map plain_of l.pins.items ≡ take l.i l.plain)

@@ -1,0 +1,160 @@
+use check_workers_probe::probe;
+use check_workers_rule::{CheckRequest, CheckRule, RequestLine};
+use http_relay_wire::{Script, ScriptedWire, WireFault};
+use lb_acl::Version;
+use std::alloc::{AllocError, Global};
+use std::net::Ipv4Addr;
+use std::test::Fail;
+
+const LOCAL: Ipv4Addr = Ipv4Addr::LOCALHOST;
+
+// The servers of one line have each their own host.
+#[test]
+fn each_server_is_sent_its_own_request(rt: HostRuntime) -> Result<(), Fail> {
+    let old = RequestLine::new(rt.alloc(), b"OPTIONS", b"/", Version::Http10)?;
+    let new = RequestLine::new(rt.alloc(), b"GET", b"/h", Version::Http11)?;
+    let shared = new.share()?;
+    let cases: [(&RequestLine, u16, &[u8], &[u8]); 4] = [
+        (&old, 80, b"OPTIONS / HTTP/1.0\r\n", b"\r\n"),
+        (
+            &new,
+            8001,
+            b"GET /h HTTP/1.1\r\n",
+            b"Host: 127.0.0.1:8001\r\n\r\n",
+        ),
+        (
+            &shared,
+            8001,
+            b"GET /h HTTP/1.1\r\n",
+            b"Host: 127.0.0.1:8001\r\n\r\n",
+        ),
+        (
+            &shared,
+            80,
+            b"GET /h HTTP/1.1\r\n",
+            b"Host: 127.0.0.1:80\r\n\r\n",
+        ),
+    ];
+    for (request, port, line, fields) in cases {
+        let rule = CheckRule::http(rt.alloc(), request, LOCAL, port)?;
+        assert!(rt;
+            rule.request() == Some(CheckRequest { line, fields }),
+            "{port}"
+        );
+    }
+    Ok(())
+}
+
+#[test]
+fn a_bare_connect_sends_and_reads_nothing(rt: HostRuntime) {
+    let rule = CheckRule::connect();
+    let mut wire = ScriptedWire::new(rt.alloc(), b"HTTP/1.0 500 No\r\n\r\n", Script::SMOOTH);
+    assert!(rt; rule.request().is_none() && probe(&rule, &mut wire));
+    assert_eq!(rt; (wire.written(), wire.unread().len()), (b"".as_slice(), 19));
+}
+
+const REQUEST: &[u8] = b"GET /h HTTP/1.1\r\nHost: 127.0.0.1:8001\r\n\r\n";
+
+fn rule(alloc: Global) -> Result<CheckRule, AllocError> {
+    let line = RequestLine::new(alloc, b"GET", b"/h", Version::Http11)?;
+    CheckRule::http(alloc, &line, LOCAL, 8001)
+}
+
+#[test]
+fn responses_and_their_verdicts(rt: HostRuntime) -> Result<(), Fail> {
+    let cases = [
+        (b"HTTP/1.0 204 No Content\r\n\r\n".as_slice(), true),
+        (b"HTTP/1.0 400 No Content\r\n\r\n", false),
+        (b"HTTP/1.0 204 No Content\r\n", false),
+        (b"HTTP/1.1 200 OK\r\nContent-Length: 5\r\n\r\nhello", true),
+        (b"HTTP/1.1 399 \r\nX: 1\r\n\r\n", true),
+        (b"HTTP/1.1 399\n\n", true),
+        (b"\r\nHTTP/1.1 302 Found\r\n\r\n", true),
+        (b"HTTP/1.1 199 OK\r\n\r\n", false),
+        (
+            b"HTTP/1.1 100 Continue\r\n\r\nHTTP/1.1 200 OK\r\n\r\n",
+            false,
+        ),
+        (b"HTTP/1.1 500 OK\r\n\r\n", false),
+        (b"HTTP/2 200 OK\r\n\r\n", false),
+        (b"HTTP/1.1 20 OK\r\n\r\n", false),
+        (b"HTTP/1.1 200 OK\r\nX : 1\r\n\r\n", false),
+        (b"SSH-2.0-OpenSSH\r\n", false),
+        (b"", false),
+    ];
+    let rule = rule(rt.alloc())?;
+    for (response, verdict) in cases {
+        for pieces in [[].as_slice(), &[1]] {
+            let script = Script {
+                pieces,
+                ..Script::SMOOTH
+            };
+            let mut wire = ScriptedWire::new(rt.alloc(), response, script);
+            let told = probe(&rule, &mut wire);
+            assert_eq!(rt; (told, wire.written()), (verdict, REQUEST), "{response:?}");
+        }
+    }
+    Ok(())
+}
+
+// The response comes in three reads, the request goes out in two writes, one of its line and one of its fields.
+#[test]
+fn a_fault_anywhere_before_the_answer_is_a_no(rt: HostRuntime) -> Result<(), Fail> {
+    let rule = rule(rt.alloc())?;
+    for fault in [WireFault::Timeout, WireFault::Broken] {
+        for at in 0..4 {
+            let of_reads = Script {
+                pieces: &[9],
+                failing_read: Some((at, fault)),
+                ..Script::SMOOTH
+            };
+            let of_writes = Script {
+                most_written: 25,
+                failing_write: Some((at, fault)),
+                ..Script::SMOOTH
+            };
+            for (script, verdict) in [(of_reads, at == 3), (of_writes, at >= 2)] {
+                let mut wire = ScriptedWire::new(
+                    rt.alloc(),
+                    b"HTTP/1.0 204 No Content\r\n\r\n",
+                    script,
+                );
+                assert_eq!(rt; probe(&rule, &mut wire), verdict, "{script:?}");
+            }
+        }
+    }
+    Ok(())
+}
+
+/// A response whose head has so many fields, of the name `X` and this value.
+fn response_of(alloc: Global, count: usize, value: &[u8]) -> Result<Vec<u8>, AllocError> {
+    let mut response = Vec::from_slice(alloc, b"HTTP/1.1 200 OK\r\n")?;
+    for _ in 0..count {
+        response.extend_from_slice(b"X: ")?;
+        response.extend_from_slice(value)?;
+        response.extend_from_slice(b"\r\n")?;
+    }
+    response.extend_from_slice(b"\r\n")?;
+    Ok(response)
+}
+
+// A head of one field has 24 bytes, and those of its value.
+#[test]
+fn heads_at_the_limits(rt: HostRuntime) -> Result<(), Fail> {
+    let rule = rule(rt.alloc())?;
+    let value = [b'x'; 39976];
+    let cases = [
+        (1, 16360, 16384, true),
+        (1, 16361, 16385, false),
+        (1, 39976, 40000, false),
+        (100, 1, 619, true),
+        (101, 1, 625, false),
+    ];
+    for (count, length, size, verdict) in cases {
+        let response = response_of(rt.alloc(), count, &value[..length])?;
+        let mut wire = ScriptedWire::new(rt.alloc(), &response, Script::SMOOTH);
+        let told = (response.len(), probe(&rule, &mut wire));
+        assert_eq!(rt; told, (size, verdict), "{count} fields, {length} bytes");
+    }
+    Ok(())
+}
