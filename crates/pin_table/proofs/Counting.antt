@@ -1,5 +1,5 @@
 -- Counts of pins through each change.
-use Rattle.std.proofs.Common.{◌≡◌, ◌≢◌, ℕ, ◌+◌, ◌<◌, ◌≤◌, ◌^◌, Bool, true, false, cond, List, [], ◌∷◌, ◌++◌, length, Option, Some, All, refl, sym, ap, ap₂, ◌∙◌, subst, arith, length-append}
+use Rattle.std.proofs.Common.{◌≡◌, ◌≢◌, ℕ, ◌+◌, ◌<◌, ◌≤◌, ◌^◌, Bool, true, false, cond, List, [], ◌∷◌, ◌++◌, length, Option, None, Some, Result, Ok, Err, OnOk, is_err, true≢false, refl, sym, ap, ap₂, ◌∙◌, subst, arith, length-append}
 use Rattle.std.proofs.lemmas.List.Sums.{sum_by-cons, sum_by-append, sum_by_push, count_by-le-length}
 use Rattle.std.specs.Bool.{Decides}
 use Rattle.pin_counts.specs.Counts.{HasOneMore, HasChanged, one_if_same}
@@ -15,6 +15,10 @@ use Rattle.pin_table.specs.Kinds.{kind_of, same_kind, pins_of, counted_of, AreCo
 use Rattle.pin_table.specs.Pins.{held_pin, Stands}
 use Rattle.pin_table.proofs.Apart.{apart-push, apart-used}
 use Rattle.pin_table.proofs.Used.{held_in, listed-push, touched_listed}
+
+pub on_ok : {A E P : Type 0} (r : Result A E) → OnOk r P → false ≡ is_err r → P
+on_ok (Ok x) holds e = holds
+on_ok (Err x) holds e = absurd (true≢false (sym e))
 
 -- 1 where the pin is of the kind, else 0
 abbrev one : TableKind → TablePin → ℕ
@@ -32,9 +36,6 @@ kind-refl kind = rw (place-refl kind.place, eqb-refl kind.want, eqb-refl kind.co
 
 one-refl : (p : TablePin) → one (kind_of p) p ≡ 1
 one-refl p = ap (λ t. cond t 1 0) (kind-refl (kind_of p))
-
-weight : TableKind → TablePin → ℕ
-weight kind p = cond (same_kind kind (kind_of p)) 1 0
 
 pub pins_of-cons : (kind : TableKind) (p : TablePin) (pins : List TablePin) → pins_of (p ∷ pins) kind ≡ one kind p + pins_of pins kind
 pins_of-cons kind p pins = sum_by-cons (λ (q : TablePin). cond (same_kind kind (kind_of q)) 1 0) p pins

@@ -113,8 +113,8 @@ impl<S: BuildHasher> CountedPins<S> {
             cost: held.cost,
             last_use: now,
         };
-        let from = TableKind::of(name, held);
-        let to = TableKind::of(name, moved);
+        let from = TableKind::of(name, &held);
+        let to = TableKind::of(name, &moved);
         self.counts.change(from, to)?;
         let _ = self.pins.touch(name, moved);
         Ok(())
@@ -130,13 +130,13 @@ impl<S: BuildHasher> CountedPins<S> {
         ensures err { OnErr result (self.new ≡ self.old) }
         ensures name_returned { IfErr result (λ returned. returned ≡ name) }
     {
-        let kind = TableKind::of(&name, held);
-        if self.counts.add(kind).is_err() {
+        if self.counts.add(TableKind::of(&name, &held)).is_err() {
             return Err(name);
         }
         if let Err(failed) = self.pins.push(name, held) {
-            self.counts.remove(kind);
-            return Err(failed.value.0);
+            let (name, held) = failed.value;
+            self.counts.remove(TableKind::of(&name, &held));
+            return Err(name);
         }
         Ok(())
     }
@@ -148,7 +148,7 @@ impl<S: BuildHasher> CountedPins<S> {
         ensures uses { self.new.uses ≡ self.old.uses }
     {
         let (name, held) = self.pins.pop_oldest()?;
-        self.counts.remove(TableKind::of(&name, held));
+        self.counts.remove(TableKind::of(&name, &held));
         Some((name, held))
     }
 

@@ -22,8 +22,8 @@ impl TableKind {
     ghost use Rattle.pin_table.specs.Pins.{held_pin};
 
     /// The kind of the pin of this name.
-    pub(crate) fn of(name: &PinId, held: Held) -> Self
-        ensures { result ≡ kind_of (held_pin name.now held) }
+    pub(crate) fn of(name: &PinId, held: &Held) -> Self
+        ensures { result ≡ kind_of (held_pin name.now held.now) }
     {
         TableKind {
             place: held.place,
