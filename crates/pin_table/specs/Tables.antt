@@ -1,8 +1,11 @@
 -- A table of pins: HAProxy Configuration Manual 2.8, `stick-table` (`size`, `nopurge`). That a full table loses one pin alone,
 -- and the version, are our own.
-use Rattle.std.specs.Prelude.{◌≡◌, ◌≢◌, ℕ, ◌+◌, ◌≤◌, Bool, ◌&&◌, nat_le, List, length, drop, AllPairs, if◌then◌else◌}
+use Rattle.std.specs.Prelude.{◌≡◌, ◌≢◌, ◌↔◌, ℕ, ◌+◌, ◌≤◌, Bool, true, ◌&&◌, nat_le, List, length, drop, AllPairs, if◌then◌else◌}
 use Rattle.lb_types.specs.declared.limits.TheConstants.{MAX_PINS}
+use Rattle.pin_set.specs.declared.pin.PinId.{PinId}
 use Rattle.lb_desk_model.specs.declared.table_pin.TablePin.{TablePin}
+use Rattle.pin_table.specs.declared.insert_fault.InsertFault.TheVariants.{TableFull}
+use Rattle.pin_table.specs.declared.insert_fault.NotInserted.{NotInserted}
 
 pub record TableParts : Type 0 where
   -- the pins in order of last use, the one that wasn't used for longest first
@@ -34,6 +37,11 @@ is_full table = nat_le table.size (length table.pins)
 -- it is full, and lets no new pin in
 abbrev pub is_closed : TableParts → Bool
 is_closed table = is_full table && table.no_purge
+
+-- what is told of a pin that wasn't made: its name, and that the table is full exactly where it lets no new pin in
+pub record IsRefusal (table : TableParts) (name : PinId) (refusal : NotInserted) : Type 0 where
+  pub name_is : refusal.name ≡ name
+  pub full : (refusal.fault ≡ TableFull) ↔ (is_closed table ≡ true)
 
 -- the pins that stay where one is added: all of them, or in a full table all but the one that wasn't used for the longest time
 abbrev pub staying : TableParts → List TablePin
