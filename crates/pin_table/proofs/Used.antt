@@ -1,7 +1,7 @@
 -- A pin that is used goes last. `eq` is `==` of names.
-use Rattle.std.proofs.Common.{◌≡◌, ◌≢◌, ℕ, Bool, true, false, cond, List, [], ◌∷◌, ◌++◌, map, Option, Some, option_map, option_to_list, refl, sym, ap, ap₂, ◌∙◌, subst}
+use Rattle.std.proofs.Common.{◌≡◌, ◌≢◌, ℕ, Bool, true, false, cond, List, [], ◌∷◌, ◌++◌, map, drop, slice_get, Option, Some, option_map, option_to_list, refl, sym, ap, ap₂, ◌∙◌, subst}
 use Rattle.std.proofs.lemmas.List.{map-append}
-use Rattle.std.proofs.lemmas.Option.{same_Some}
+use Rattle.std.proofs.lemmas.Option.{none-some, same_Some}
 use Rattle.std.specs.Bool.{Decides}
 use Rattle.std.specs.Map.{lookup, lookup_key, remove_entry}
 use Rattle.pin_recent.specs.Recent.{touched}
@@ -31,6 +31,18 @@ pairs_of-listed (e ∷ pairs) = ap (λ l. e ∷ l) (pairs_of-listed pairs)
 
 pub listed-push : (pairs : List (PinId × Held)) (name : PinId) (held : Held) → listed (pairs ++ (name, held) ∷ []) ≡ listed pairs ++ held_pin name held ∷ []
 listed-push pairs name held = map-append (λ (e : PinId × Held). held_pin e.0 e.1) pairs ((name, held) ∷ [])
+
+pub listed-first : (pairs : List (PinId × Held)) → slice_get (listed pairs) 0 ≡ option_map (λ e. held_pin e.0 e.1) (slice_get pairs 0)
+listed-first [] = refl
+listed-first (e ∷ pairs) = refl
+
+pub listed-rest : (pairs : List (PinId × Held)) → listed (drop 1 pairs) ≡ drop 1 (listed pairs)
+listed-rest [] = refl
+listed-rest (e ∷ pairs) = refl
+
+pub first_is : {X : Type 0} (xs : List X) (x : X) → Some x ≡ slice_get xs 0 → xs ≡ x ∷ drop 1 xs
+first_is [] x is = absurd (none-some x (sym is))
+first_is (y ∷ xs) x is = ap (λ z. z ∷ xs) (same_Some y x (sym is))
 
 -- the pin after a use at this place and moment
 abbrev pub held_in : Held → Option ℕ → ℕ → Held

@@ -1,5 +1,5 @@
 //! Pins in order of last use, with their counts.
-ghost use Rattle.std.specs.Prelude.{◌≡◌, ℕ, ◌+◌, ◌^◌, ◌<◌, [], ◌∷◌, ◌++◌, Some, IfErr, IfSome, IfNone, OnOk, OnErr, length, option_to_list, slice_get};
+ghost use Rattle.std.specs.Prelude.{◌≡◌, ℕ, ◌+◌, ◌^◌, ◌<◌, ◌≤◌, [], ◌∷◌, ◌++◌, Some, IfErr, IfSome, IfNone, OnOk, OnErr, length, drop, slice_get};
 ghost use Rattle.std.specs.Map.Iter.{ShowsInOrder, deref_pair};
 ghost use Rattle.std.specs.Option.{option_map};
 ghost use Rattle.pin_counts.specs.Counts.{AreRising};
@@ -143,13 +143,21 @@ impl<S: BuildHasher> CountedPins<S> {
 
     /// Takes out the pin that wasn't used for longest, without memory.
     pub(crate) fn pop_oldest(&mut self) -> Option<(PinId, Held)>
-        requires { self.old.uses < 2 ^ 63 }
-        ensures oldest { self.old.pins ≡ option_to_list (option_map (λ p. held_pin p.0 p.1) result) ++ self.new.pins }
-        ensures uses { self.new.uses ≡ self.old.uses }
+        requires { self.old.uses ≤ 2 ^ 63 }
+        ensures oldest { option_map (λ p. held_pin p.0 p.1) result ≡ slice_get self.old.pins 0 }
+        ensures left { self.new ≡ used_pins (drop 1 self.old.pins) self.old.uses }
     {
         let (name, held) = self.pins.pop_oldest()?;
         self.counts.remove(TableKind::of(&name, &held));
         Some((name, held))
+    }
+
+    /// Lets the pin go that wasn't used for longest.
+    pub(crate) fn purge(&mut self)
+        requires { self.old.uses ≤ 2 ^ 63 }
+        ensures { self.new ≡ used_pins (drop 1 self.old.pins) self.old.uses }
+    {
+        let _ = self.pop_oldest();
     }
 
     /// How many pins there are of each kind, for the kinds that there are, in rising order.

@@ -1,4 +1,4 @@
-ghost use Rattle.std.specs.Prelude.{◌≡◌, ℕ, ◌+◌, ◌^◌, ◌<◌, true, [], ◌∷◌, ◌++◌, Some, IsErr, IfErr, IfSome, IfNone, OnOk, OnErr, length, drop, slice_get};
+ghost use Rattle.std.specs.Prelude.{◌≡◌, ℕ, ◌+◌, ◌^◌, ◌<◌, ◌≤◌, true, [], ◌∷◌, ◌++◌, Some, IsErr, IfErr, IfSome, IfNone, OnOk, OnErr, length, drop, slice_get};
 ghost use Rattle.std.specs.Map.Iter.{ShowsInOrder, deref_pair};
 ghost use Rattle.std.specs.Option.{option_map};
 ghost use Rattle.pin_counts.specs.Counts.{AreRising};
@@ -175,14 +175,14 @@ impl<S: BuildHasher> Table<S> {
             });
         }
         if full {
-            let _ = self.pins.pop_oldest();
+            self.pins.purge();
         }
         Ok(())
     }
 
     /// Takes out the pin that wasn't used for longest, without memory.
     pub fn pop_oldest(&mut self) -> Option<(PinId, Held)>
-        requires { self.old.uses < 2 ^ 63 }
+        requires { self.old.uses ≤ 2 ^ 63 }
         ensures oldest { option_map (λ p. held_pin p.0 p.1) result ≡ slice_get self.old.pins 0 }
         ensures left { self.new ≡ with_pins self.old (drop 1 self.old.pins) }
     {
