@@ -108,15 +108,31 @@ impl<S: BuildHasher + Drop> Both<S> {
 
     /// Whether both have as many pins, the same oldest one and the same pin of this number, and the counts are those of the list.
     fn agree(&self, number: u32) -> bool {
-        let oldest = self.table.oldest().map(|pin| pin.1.last_use);
-        let held = self.table.find(&name_of(number));
-        let pin = self.plain.iter().find(|pin| pin.number == number);
+        let oldest = self.plain.first().map(|pin| pin.last_use);
         self.table.len() == self.plain.len()
-            && oldest == self.plain.first().map(|pin| pin.last_use)
-            && held.map(|held| held.place) == pin.map(|pin| pin.place)
-            && held.map(|held| held.last_use) == pin.map(|pin| pin.last_use)
-            && held.map(|held| held.cost) == pin.map(|pin| cost_of(pin.number))
+            && self.oldest_use() == oldest
+            && self.pin_agrees(number)
             && self.counts_agree()
+    }
+
+    /// Whether both have the same pin of this number, or none.
+    fn pin_agrees(&self, number: u32) -> bool {
+        let pin = self.plain.iter().find(|pin| pin.number == number).copied();
+        let Some(held) = self.table.find(&name_of(number)) else {
+            return pin.is_none();
+        };
+        let Some(pin) = pin else {
+            return false;
+        };
+        held.place == pin.place && held.last_use == pin.last_use && held.cost == cost_of(number)
+    }
+
+    /// When the table's oldest pin was used.
+    fn oldest_use(&self) -> Option<Moment> {
+        match self.table.oldest() {
+            Some((_, held)) => Some(held.last_use),
+            None => None,
+        }
     }
 
     /// Whether the counts are those of the list, counted anew, and rise.
