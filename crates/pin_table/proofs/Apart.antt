@@ -1,5 +1,5 @@
 -- Lists of pins of which no two have one name.
-use Rattle.std.proofs.Common.{◌≡◌, ◌≢◌, ℕ, ◌<◌, List, [], ◌∷◌, ◌++◌, All, refl, sym, ap, ◌∙◌, arith}
+use Rattle.std.proofs.Common.{◌≡◌, ◌≢◌, List, [], ◌∷◌, ◌++◌, All, sym, arith}
 use Rattle.std.proofs.lemmas.List.Elements.{All-nil, All-cons, All-head, All-tail, All-push, All-weaker}
 use Rattle.std.proofs.lemmas.List.Kept.{AllPairs-cons}
 use Rattle.std.specs.List.{AllPairs}
@@ -21,9 +21,9 @@ flipped a b apart same = apart (sym same)
 pub apart-push : (pins : List TablePin) (p : TablePin) → AreApart pins → IsNew p.pin.id pins → AreApart (pins ++ p ∷ [])
 apart-push [] p apart new = (All-nil (λ (q : TablePin). q.pin.id ≢ p.pin.id), tt)
 apart-push (q ∷ pins) p apart new = (
-    All-push (λ (r : TablePin). r.pin.id ≢ q.pin.id) pins p apart.0 (flipped q.pin.id p.pin.id (All-head (λ (r : TablePin). r.pin.id ≢ p.pin.id) q pins new)),
-    apart-push pins p apart.1 (All-tail (λ (r : TablePin). r.pin.id ≢ p.pin.id) q pins new),
-  )
+  All-push (λ (r : TablePin). r.pin.id ≢ q.pin.id) pins p apart.0 (flipped q.pin.id p.pin.id (All-head (λ (r : TablePin). r.pin.id ≢ p.pin.id) q pins new)),
+  apart-push pins p apart.1 (All-tail (λ (r : TablePin). r.pin.id ≢ p.pin.id) q pins new),
+)
 
 -- a pin between others: these have other names, and no two of them one name
 pub apart-without : (before : List TablePin) (found : TablePin) (after : List TablePin) → AreApart (before ++ found ∷ after)

@@ -1,5 +1,5 @@
 -- Counts of pins through each change.
-use Rattle.std.proofs.Common.{◌≡◌, ◌≢◌, ℕ, ◌+◌, ◌<◌, ◌≤◌, ◌^◌, Bool, true, false, cond, List, [], ◌∷◌, ◌++◌, length, Option, None, Some, Result, Ok, Err, OnOk, is_err, true≢false, refl, sym, ap, ap₂, ◌∙◌, subst, arith, length-append}
+use Rattle.std.proofs.Common.{◌≡◌, ℕ, ◌+◌, ◌<◌, ◌^◌, Bool, true, false, cond, List, [], ◌∷◌, ◌++◌, length, Option, None, Some, Result, Ok, Err, OnOk, is_err, true≢false, refl, sym, ap, subst, arith}
 use Rattle.std.proofs.lemmas.List.Sums.{sum_by-cons, sum_by-append, sum_by_push, count_by-le-length}
 use Rattle.std.specs.Bool.{Decides}
 use Rattle.pin_counts.specs.Counts.{HasOneMore, HasChanged, one_if_same}
@@ -10,7 +10,7 @@ use Rattle.lb_desk_model.specs.Serves.{IsNew}
 use Rattle.lb_types_pins.specs.Kinds.{same_place}
 use Rattle.pin_table.specs.declared.held.Held.{Held}
 use Rattle.pin_table.specs.declared.table_kind.TableKind.{TableKind}
-use Rattle.pin_table.specs.Counted.{listed, AreApart, AreCounted}
+use Rattle.pin_table.specs.Counted.{listed, AreCounted}
 use Rattle.pin_table.specs.Kinds.{kind_of, same_kind, pins_of, counted_of, AreCounts}
 use Rattle.pin_table.specs.Pins.{held_pin, Stands}
 use Rattle.pin_table.proofs.Apart.{apart-push, apart-used}

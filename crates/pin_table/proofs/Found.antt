@@ -1,5 +1,5 @@
 -- What a look-up by name says of the pins. `eq` is `==` of names.
-use Rattle.std.proofs.Common.{◌≡◌, ◌≢◌, ℕ, Bool, true, false, cond, List, [], ◌∷◌, ◌++◌, map, Option, None, Some, is_some, IfSome, IfNone, All, refl, sym, ap, ◌∙◌, subst, true≢false}
+use Rattle.std.proofs.Common.{◌≡◌, ◌≢◌, Bool, true, false, cond, List, [], ◌∷◌, Option, None, Some, is_some, IfSome, IfNone, refl, sym, ap, ◌∙◌, subst, true≢false}
 use Rattle.std.proofs.lemmas.List.Elements.{All-nil, All-cons, All-head, All-tail}
 use Rattle.std.proofs.lemmas.Option.{none-some, same_Some}
 use Rattle.std.specs.Bool.{Decides}
@@ -10,7 +10,7 @@ use Rattle.lb_desk_model.specs.Serves.{StandsBetween, IsNew}
 use Rattle.pin_table.specs.declared.held.Held.{Held}
 use Rattle.pin_table.specs.Counted.{listed}
 use Rattle.pin_table.specs.Pins.{held_pin, Stands}
-use Rattle.pin_table.proofs.Apart.{All-without, flipped}
+use Rattle.pin_table.proofs.Apart.{All-without}
 
 module _ (eq : PinId → PinId → Bool) (decides : (a b : PinId) → Decides (eq a b) (a ≡ b)) where
   pub differs : (a b : PinId) → eq a b ≡ false → b ≢ a

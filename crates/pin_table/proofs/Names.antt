@@ -1,8 +1,8 @@
 -- `==` of names decides whether they are one.
-use Rattle.std.proofs.Common.{◌≡◌, ℕ, ◌==◌, ◌&&◌, Bool, true, false, List, refl, sym, ap, ap₂, rules}
+use Rattle.std.proofs.Common.{◌≡◌, ℕ, ◌==◌, List, ap, ap₂}
 use Rattle.std.specs.Bool.{Decides}
 use Rattle.std.proofs.lemmas.Bool.Decides.{Decides-and, Decides-like, Decides-eqb}
-use Rattle.std.specs.Cmp.Lexicographic.{pointwise, bytes_decides}
+use Rattle.std.specs.Cmp.Lexicographic.{bytes_decides}
 use Rattle.std.specs.declared.net.ipv4_addr.Ipv4Addr.{Ipv4Addr}
 use Rattle.pin_set.specs.declared.pin.PinId.{PinId}
 use Rattle.pin_set.specs.declared.pin_key.PinKey.{PinKey}

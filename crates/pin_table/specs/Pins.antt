@@ -1,6 +1,6 @@
 -- Pins in order of last use: HAProxy Configuration Manual 2.8, `stick-table` and `stick on`. That a pin's name has the wanted
 -- servers beside the key is our own.
-use Rattle.std.specs.Prelude.{◌≡◌, ℕ, Option, Some, List, [], ◌∷◌, ◌++◌, map}
+use Rattle.std.specs.Prelude.{◌≡◌, ℕ, Option, Some, List, [], ◌∷◌, ◌++◌}
 use Rattle.pin_set.specs.declared.pin.PinId.{PinId}
 use Rattle.lb_desk_model.specs.declared.table_pin.TablePin.{TablePin}
 use Rattle.lb_desk_model.specs.Serves.{StandsBetween}

@@ -5,9 +5,7 @@
 
 #[cfg(test)]
 mod random;
-
 #[cfg(test)]
 mod rows;
-
 #[cfg(test)]
 mod sketch;

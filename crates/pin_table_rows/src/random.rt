@@ -209,10 +209,16 @@ fn random_calls_agree_with_a_plain_list(rt: HostRuntime) -> Result<(), Fail> {
         }
         let fixed = BuildHasherDefault::<FoldHasher>::new();
         let table = Table::new(rt.alloc(), settings(size, no_purge), fixed);
-        assert_eq!(rt; first_difference(rt.alloc(), table, size, no_purge, calls)?, None);
+        assert_eq!(rt;
+            first_difference(rt.alloc(), table, size, no_purge, calls)?,
+            None
+        );
         let seeded = RandomState::new(&rt)?;
         let table = Table::new(rt.alloc(), settings(size, no_purge), seeded);
-        assert_eq!(rt; first_difference(rt.alloc(), table, size, no_purge, calls)?, None);
+        assert_eq!(rt;
+            first_difference(rt.alloc(), table, size, no_purge, calls)?,
+            None
+        );
     }
     Ok(())
 }

@@ -13,13 +13,34 @@ use std::test::Fail;
 type Row = (&'static str, u32, bool, &'static [u8], &'static [u8], u32);
 
 const ROWS: [Row; 12] = [
-    ("a full table loses the oldest", 3, false, b"1234", b"234", 0),
+    (
+        "a full table loses the oldest",
+        3,
+        false,
+        b"1234",
+        b"234",
+        0,
+    ),
     ("it loses one alone", 3, false, b"12345", b"345", 0),
     ("a kept pin is the last to go", 2, false, b"1213", b"13", 0),
     ("a moved pin is the last to go", 2, false, b"12a3", b"13", 0),
-    ("a table of size 1 has the last pin", 1, false, b"12233", b"3", 0),
+    (
+        "a table of size 1 has the last pin",
+        1,
+        false,
+        b"12233",
+        b"3",
+        0,
+    ),
     ("a table of size 1 keeps its pin", 1, true, b"1221", b"1", 2),
-    ("the only pin is used where it is", 3, false, b"11a1", b"1", 0),
+    (
+        "the only pin is used where it is",
+        3,
+        false,
+        b"11a1",
+        b"1",
+        0,
+    ),
     ("a full table may keep its pins", 2, true, b"1234", b"12", 2),
     ("those are used", 2, true, b"12131a", b"21", 1),
     ("a pop makes room", 2, true, b"12-3", b"23", 0),
@@ -89,17 +110,16 @@ fn run<S: BuildHasher + Drop>(table: &mut Table<S>, steps: &[u8]) -> Result<u32,
 }
 
 /// The numbers of the pins that are left, oldest first, as digits. The table is empty then.
-fn left<S: BuildHasher + Drop>(
-    alloc: Global,
-    table: &mut Table<S>,
-) -> Result<Vec<u8>, AllocError> {
+fn left<S: BuildHasher + Drop>(alloc: Global, table: &mut Table<S>) -> Result<Vec<u8>, AllocError> {
     let mut digits = Vec::new(alloc);
     for _ in 0..table.len() {
         if table.uses() >= 1000 {
             return Ok(digits);
         }
         if let Some((name, _)) = table.pop_oldest() {
-            let digit = b"0123456789".iter().find(|d| name == name_of(u32::from(**d) % 48));
+            let digit = b"0123456789"
+                .iter()
+                .find(|d| name == name_of(u32::from(**d) % 48));
             digits.push(digit.copied().unwrap_or(b'?'))?;
         }
     }
@@ -143,6 +163,9 @@ fn versions_and_counts_of_a_small_table(rt: HostRuntime) -> Result<(), Fail> {
         (Some(1), 1, 2, 1),
     ];
     assert_eq!(rt; counts.as_slice(), wanted.as_slice());
-    assert_eq!(rt; (table.version(), table.uses(), table.is_full()), (1, 7, true));
+    assert_eq!(rt;
+        (table.version(), table.uses(), table.is_full()),
+        (1, 7, true)
+    );
     Ok(())
 }

@@ -1,4 +1,4 @@
-use Rattle.std.proofs.Common.{◌≡◌, Option, IfSome, IfNone, ap, sym, subst, ◌∙◌}
+use Rattle.std.proofs.Common.{IfSome, IfNone, subst, ◌∙◌}
 use Rattle.lb_desk_model.specs.Serves.{IsNew}
 use Rattle.pin_table.specs.Pins.{Stands}
 use Rattle.pin_table.proofs.Names.{names_decide}

@@ -1,4 +1,4 @@
-use Rattle.std.proofs.Common.{◌≡◌, ◌+◌, ◌^◌, ◌<◌, Some, cond, length, ap, sym, subst, ◌∙◌}
+use Rattle.std.proofs.Common.{◌+◌, ◌^◌, ◌<◌, Some, cond, length, ap, sym, subst, ◌∙◌}
 use Rattle.pin_counts.specs.Counts.{HasChanged}
 use Rattle.lb_desk_model.specs.Serves.{StandsBetween}
 use Rattle.pin_table.specs.declared.table_kind.TableKind.{TableKind}

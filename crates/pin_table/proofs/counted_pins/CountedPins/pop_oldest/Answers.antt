@@ -1,12 +1,10 @@
-use Rattle.std.proofs.Common.{◌≡◌, ◌<◌, ◌∷◌, Option, option_map, ap, ap₂, sym, subst, ◌∙◌}
-use Rattle.pin_set.specs.declared.pin.PinId.{PinId}
+use Rattle.std.proofs.Common.{◌<◌, ◌∷◌, ap, sym, subst, ◌∙◌}
 use Rattle.pin_counts.specs.Counts.{HasOneMore}
-use Rattle.pin_table.specs.declared.held.Held.{Held}
 use Rattle.pin_table.specs.declared.table_kind.TableKind.{TableKind}
 use Rattle.pin_table.specs.Counted.{listed}
 use Rattle.pin_table.specs.Kinds.{same_kind, counted_of, AreCounts}
 use Rattle.pin_table.specs.Pins.{held_pin}
-use Rattle.pin_table.proofs.Used.{first_is, listed-first, listed-rest}
+use Rattle.pin_table.proofs.Used.{first_is}
 use Rattle.pin_table.proofs.Counting.{some_first, counted-pop}
 use Rattle.pin_table.proofs.counted_pins.CountedPins.pop_oldest.Goals as goal
 
