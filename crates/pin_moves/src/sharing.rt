@@ -93,10 +93,9 @@ fn share(
     ensures last { OnOk result (All (λ m. (kind_before (moved_pins m) (counted_pins counted.now) ≡ true)
         ⊎ (moved_pins m ≡ counted_pins counted.now)) moves.new.items) }
 {
-    let kind = counted_kind(usable, counted);
     let mut wanted = counted.count as u32;
     while wanted > 0 {
-        let (to, count) = take(left, kind, wanted);
+        let (to, count) = take(left, counted_kind(usable, counted), wanted);
         wanted -= count;
         moves.push(Move {
             place: counted.place,

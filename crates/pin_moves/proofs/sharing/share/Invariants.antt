@@ -9,12 +9,12 @@ use Rattle.pin_moves.specs.Leftovers.{AreInOrder, GoesBehind}
 use Rattle.pin_moves.specs.Moves.{counted_pins, moved_pins, move_before, moved_with, moved_to}
 use Rattle.pin_moves.proofs.sharing.share.Given as goal
 
-abbrev pub invariant-loop : goal.invariant-loop
-invariant-loop l = record {
+abbrev pub invariant-loop-wanted : goal.invariant-loop-wanted
+invariant-loop-wanted l = record {
   ordered : AreInOrder l.left;
   within : l.wanted ≤ l.counted.count;
-  left : (kind : PinKind) → pins_in_rows kind l.left + cond (same_kind kind l.kind) l.counted.count 0
-      ≡ pins_in_rows kind l.fn.left + cond (same_kind kind l.kind) l.wanted 0;
+  left : (kind : PinKind) → pins_in_rows kind l.left + cond (same_kind kind (counted_kind l.usable l.counted)) l.counted.count 0
+      ≡ pins_in_rows kind l.fn.left + cond (same_kind kind (counted_kind l.usable l.counted)) l.wanted 0;
   sent : (kind : PinKind) (to : Option ℕ) → moved_to l.usable l.moves.items kind to + sent l.left kind to
       ≡ moved_to l.usable l.fn.moves.items kind to + sent l.fn.left kind to;
   whole : (pins : PinKind)
@@ -23,8 +23,8 @@ invariant-loop l = record {
   some : All (λ m. 1 ≤ m.count) l.moves.items;
   rising : AllPairs (λ a b. move_before a b ≡ true) l.moves.items;
   last : All (λ m. (kind_before (moved_pins m) (counted_pins l.counted) ≡ true)
-      ⊎ ((moved_pins m ≡ counted_pins l.counted) × (1 ≤ l.wanted → GoesBehind l.left l.kind m.to))) l.moves.items;
+      ⊎ ((moved_pins m ≡ counted_pins l.counted) × (1 ≤ l.wanted → GoesBehind l.left (counted_kind l.usable l.counted) m.to))) l.moves.items;
 }
 
-abbrev pub decreases-loop : goal.decreases-loop
-decreases-loop l = l.wanted
+abbrev pub decreases-loop-wanted : goal.decreases-loop-wanted
+decreases-loop-wanted l = l.wanted
