@@ -1,2 +1,3 @@
+pub mod Handing
 pub mod Shared
 pub mod Taking

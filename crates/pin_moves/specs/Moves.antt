@@ -1,5 +1,5 @@
 -- Moves of pins that are counted by place, wanted servers and cost, as a plan says that pins of each kind move.
-use Rattle.std.specs.Prelude.{◌≡◌, ℕ, ◌≤◌, Bool, true, ◌&&◌, ◌||◌, ◌==◌, Option, List, All, AllPairs, sum_by, if◌then◌else◌}
+use Rattle.std.specs.Prelude.{◌≡◌, ℕ, ◌+◌, ◌≤◌, Bool, true, ◌&&◌, ◌||◌, ◌==◌, Option, List, All, AllPairs, sum_by, if◌then◌else◌}
 use Rattle.lb_types_pins.specs.declared.kind.PinKind.{PinKind}
 use Rattle.lb_types_pins.specs.declared.kind.Group.{Group}
 use Rattle.lb_types_pins.specs.Kinds.{same_place, same_kind, place_before, kind_before}
@@ -10,11 +10,14 @@ use Rattle.pin_groups.specs.Counts.{counted_kind}
 use Rattle.pin_moves.specs.declared.a_move.Move.{Move}
 
 -- place, wanted servers and cost: a kind that has the wanted servers where a plan's kind has the permitted ones
+abbrev pub pins_of : Option ℕ → ℕ → ℕ → PinKind
+pins_of place want cost = record { place = place; permitted = want; cost = cost }
+
 abbrev pub counted_pins : PinCount → PinKind
-counted_pins c = record { place = c.place; permitted = c.want; cost = c.cost }
+counted_pins c = pins_of c.place c.want c.cost
 
 abbrev pub moved_pins : Move → PinKind
-moved_pins m = record { place = m.place; permitted = m.want; cost = m.cost }
+moved_pins m = pins_of m.place m.want m.cost
 
 -- the kind that a plan gives the moved pins, where these servers are usable
 abbrev pub moved_kind : ℕ → Move → PinKind
@@ -43,3 +46,24 @@ pub record AreRisingCounts (counts : List PinCount) : Type 0 where
 abbrev pub AreGroupsOfCounts : ℕ → List Group → List PinCount → Type 0
 AreGroupsOfCounts usable groups counts = (kind : PinKind)
     → sum_by (λ c. if same_kind kind (counted_kind usable c) then c.count else 0) counts ≡ count_in groups kind
+
+-- how many pins of this place, these wanted servers and this cost go to this place
+abbrev pub going : List Move → Option ℕ → ℕ → ℕ → Option ℕ → ℕ
+going moves place want cost to =
+    sum_by (λ m. if is_move (pins_of place want cost) to (moved_pins m, m.to) then m.count else 0) moves
+
+-- One pin of this place, these wanted servers and this cost was sent to this place: one fewer is left of these pins and one fewer
+-- of them goes there, whichever servers are usable, and nothing else changes.
+pub record IsHandedOut (place : Option ℕ) (want cost : ℕ) (to : Option ℕ) (old new : List Move) : Type 0 where
+  pub left : (p : Option ℕ) (w c : ℕ)
+      → moved_with new p w c + (if same_kind (pins_of p w c) (pins_of place want cost) then 1 else 0) ≡ moved_with old p w c
+  pub going : (p : Option ℕ) (w c : ℕ) (q : Option ℕ)
+      → going new p w c q + (if is_move (pins_of p w c) q (pins_of place want cost, to) then 1 else 0) ≡ going old p w c q
+  pub sent : (usable : ℕ) (kind : PinKind) (q : Option ℕ)
+      → moved_to usable new kind q + (if is_move kind q (pins_of place (permitted want usable) cost, to) then 1 else 0)
+      ≡ moved_to usable old kind q
+
+-- moves that have no pins left send none of any kind anywhere, whichever servers are usable
+abbrev pub NothingIsLeft : Type 0
+NothingIsLeft = (moves : List Move) → ((place : Option ℕ) (want cost : ℕ) → moved_with moves place want cost ≡ 0)
+    → (usable : ℕ) (kind : PinKind) (to : Option ℕ) → moved_to usable moves kind to ≡ 0

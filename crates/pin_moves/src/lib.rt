@@ -8,7 +8,9 @@
 #![tactic(auto)]
 
 mod a_move;
+mod handed;
 mod sharing;
 
 pub use a_move::Move;
+pub use handed::{Moving, nothing_is_left};
 pub use sharing::moves_of;
