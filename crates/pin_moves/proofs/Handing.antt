@@ -1,5 +1,5 @@
 -- Moves are handed out pin by pin: what is left of them stays in order.
-use Rattle.std.proofs.Common.{◌≡◌, ◌⊎◌, ℕ, suc, ◌+◌, ◌-◌, ◌<◌, ◌≤◌, Bool, true, false, ◌&&◌, cond, Option, List, [], ◌∷◌, length, get_or, set, refl, sym, ap, ◌∙◌, inl, inr, arith}
+use Rattle.std.proofs.Common.{◌≡◌, ◌⊎◌, ℕ, ◌+◌, ◌-◌, ◌≤◌, Bool, true, false, ◌&&◌, cond, Option, List, [], ◌∷◌, get_or, set, refl, sym, ap, ◌∙◌, inl, inr, arith}
 use Rattle.std.specs.List.{sum_by, All, AllPairs}
 use Rattle.std.proofs.lemmas.Bool.{and_parts, or_cases}
 use Rattle.std.proofs.lemmas.List.{get_or_default}
@@ -40,8 +40,8 @@ order_less left pins at m order first is = record {
   used = pairs_set (λ a b. moved_pins a ≡ moved_pins b → 1 ≤ a.count → 1 ≤ b.count) left at (less m) first.within
       (λ k d low same some. absurd (omega (arith, first.first k d low (same ∙ for_pins))))
       (λ k d high below same some.
-          let there = order.used at k d high below (ap moved_pins (sym (read d)) ∙ same) in
-          there (omega (arith, ap (λ (n : Move). n.count) (read d)))) order.used;
+      let there = order.used at k d high below (ap moved_pins (sym (read d)) ∙ same) in
+      there (omega (arith, ap (λ (n : Move). n.count) (read d)))) order.used;
 }
   where
     read : (d : Move) → m ≡ get_or left at d

@@ -1,10 +1,9 @@
 -- Lists in rising order of kind, of each of which the first are used up first: where the first with some left stands, and what
 -- is left once some are taken from it.
-use Rattle.std.proofs.Common.{◌≡◌, ◌⊎◌, ◌≢◌, ℕ, zero, suc, ◌+◌, ◌-◌, ◌<◌, ◌≤◌, Bool, true, false, ◌&&◌, ◌||◌, eqb, cond, Option, List, [], ◌∷◌, length, get_or, set, refl, sym, ap, subst, ◌∙◌, inl, inr, arith}
+use Rattle.std.proofs.Common.{◌≡◌, ◌⊎◌, ◌≢◌, ℕ, zero, suc, ◌+◌, ◌-◌, ◌<◌, ◌≤◌, Bool, true, false, ◌&&◌, ◌||◌, eqb, cond, Option, List, [], ◌∷◌, length, get_or, set, refl, sym, ap, ◌∙◌, inl, inr, arith}
 use Rattle.std.specs.List.{sum_by, AllPairs}
 use Rattle.std.specs.List.Sorted.{IsPartitionedBy}
 use Rattle.std.proofs.lemmas.Bool.{eqb-true, and_parts, or_cases, or_left, or_right, cases_eq, cases_lt}
-use Rattle.std.proofs.lemmas.Bool.Decides.{nat_tests}
 use Rattle.std.proofs.lemmas.List.{length-set, get_or_default, get_or-set_same, get_or-set_other}
 use Rattle.std.proofs.lemmas.List.Sums.{sum_by-cons, sum_by-set}
 use Rattle.lb_types_pins.specs.declared.kind.PinKind.{PinKind}
@@ -204,8 +203,8 @@ order_less left kind at n row order first is = record {
   used = pairs_set (λ a b. a.kind ≡ b.kind → 1 ≤ a.count → 1 ≤ b.count) left at (less row n) first.within
       (λ k d low same some. absurd (omega (arith, first.first k d low (same ∙ of_kind))))
       (λ k d high below same some.
-          let there = order.used at k d high below (ap (λ (r : Row). r.kind) (sym (read d)) ∙ same) in
-          there (omega (arith, ap (λ (r : Row). r.count) (read d)))) order.used;
+      let there = order.used at k d high below (ap (λ (r : Row). r.kind) (sym (read d)) ∙ same) in
+      there (omega (arith, ap (λ (r : Row). r.count) (read d)))) order.used;
 }
   where
     read : (d : Row) → row ≡ get_or left at d

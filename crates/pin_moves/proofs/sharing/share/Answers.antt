@@ -1,8 +1,7 @@
-use Rattle.std.proofs.Common.{◌≡◌, ℕ, ◌-◌, ◌≤◌, cond, true, get_or, [], ◌∷◌, ◌++◌, refl, ◌∙◌, inr, arith}
+use Rattle.std.proofs.Common.{◌≡◌, ◌-◌, ◌≤◌, cond, true, get_or, [], ◌∷◌, ◌++◌, refl, ◌∙◌, inr, arith}
 use Rattle.std.proofs.lemmas.List.Elements.{All-push, All-weaker}
 use Rattle.std.proofs.lemmas.List.Quantifiers.{all_pairs_push}
 use Rattle.std.proofs.lemmas.List.Sums.{sum_by_push}
-use Rattle.lb_types_pins.specs.declared.kind.PinKind.{PinKind}
 use Rattle.lb_types_pins.specs.Kinds.{same_kind}
 use Rattle.pin_set.specs.Rows.{is_move}
 use Rattle.pin_groups.specs.Counts.{counted_kind}
@@ -33,8 +32,10 @@ loop-wanted-preserved c =
           omega (arith, so_far.sent other place, taken.sent other place, sum_by_push (λ (n : Move). cond (is_move other place (moved_kind usable n, n.to)) n.count 0) moves m);
       whole = λ pins.
           omega (
-            arith, so_far.whole pins, sum_by_push (λ (n : Move). cond (same_kind pins (moved_pins n)) n.count 0) moves m,
-                fewer_wanted (same_kind pins (counted_pins counted)) wanted count taken.within,
+            arith,
+            so_far.whole pins,
+            sum_by_push (λ (n : Move). cond (same_kind pins (moved_pins n)) n.count 0) moves m,
+            fewer_wanted (same_kind pins (counted_pins counted)) wanted count taken.within,
           );
       some = All-push (λ (n : Move). 1 ≤ n.count) moves m so_far.some taken.some;
       rising = all_pairs_push (λ a b. move_before a b ≡ true) moves m so_far.rising

@@ -1,15 +1,11 @@
-use Rattle.std.proofs.Common.{◌≡◌, ℕ, ◌+◌, ◌<◌, ◌≤◌, List, [], length, get_or, take, drop, refl, sym, ap, subst, ◌∙◌, arith}
+use Rattle.std.proofs.Common.{◌≡◌, ◌<◌, List, [], length, get_or, take, drop, refl, sym, ap, ◌∙◌, arith}
 use Rattle.std.specs.List.{sum_by}
 use Rattle.std.proofs.lemmas.List.{drop_all, take_all, with_items_is}
-use Rattle.std.proofs.lemmas.List.Elements.{All-nil, All-weaker}
-use Rattle.lb_types_pins.specs.declared.kind.PinKind.{PinKind}
-use Rattle.lb_types_pins.specs.declared.kind.Row.{Row}
 use Rattle.dual_cert_plan.proofs.OwnSheet.{pins-groups_of}
 use Rattle.dual_cert_plan.specs.Plans.{pins_in_rows}
 use Rattle.pin_groups.specs.declared.counted.PinCount.{PinCount}
-use Rattle.pin_groups.specs.Counts.{counted_kind, counted_with}
-use Rattle.pin_moves.specs.declared.a_move.Move.{Move}
-use Rattle.pin_moves.proofs.Shared.{order_start, tally, to_come-next, whole-next, enough_left, few_counted, still_behind, none_sent}
+use Rattle.pin_groups.specs.Counts.{counted_with}
+use Rattle.pin_moves.proofs.Shared.{order_start, tally, to_come-next, whole-next, few_counted, still_behind, none_sent}
 use Rattle.pin_moves.proofs.sharing.shared_out.Goals as goal
 
 pub loop-counted-init : goal.loop-counted-init

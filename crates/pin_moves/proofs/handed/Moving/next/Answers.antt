@@ -1,5 +1,4 @@
-use Rattle.std.proofs.Common.{◌≡◌, ℕ, List, get_or, set, sym, subst, ◌∙◌, arith}
-use Rattle.std.proofs.lemmas.List.{get_or_default}
+use Rattle.std.proofs.Common.{set}
 use Rattle.lb_types_pins.specs.Kinds.{same_kind}
 use Rattle.pin_set.specs.Pins.{permitted}
 use Rattle.pin_set.specs.Rows.{is_move}
