@@ -35,6 +35,13 @@ impl Moving {
         Moving { left: moves }
     }
 
+    /// The moves that are left. Some may have no pins left.
+    pub fn left(&self) -> &[Move]
+        ensures { result.now ≡ self.now }
+    {
+        &self.left
+    }
+
     /// Where one more of the pins of this place, these wanted servers and this cost goes, of which one has to be left. It takes no
     /// memory, and one binary search among the moves.
     pub fn next(&mut self, place: Place, want: ServerSet, cost: u16) -> Place
