@@ -39,7 +39,7 @@ fn counts_of_one_kind_share_its_rows_and_each_pin_is_handed_a_place(
     let only_b = none.with(b);
     let both = only_b.with(a);
     let text = b"stickyplan 2\nversion 5\nserver aa cap 4 price 0\nserver ab cap 9 price 0\n\
-        row 2 aa ab ab 3\nrow 4 aa aa,ab aa 3\nrow 1 aa aa,ab ab 3\nend\n";
+        row 2 aa ab ab 3\nrow 4 aa aa aa,ab 3\nrow 1 aa ab aa,ab 3\nend\n";
     let plan = read_plan(alloc, text)?;
     let counts = [
         count(Some(a), none, 3, 3),
