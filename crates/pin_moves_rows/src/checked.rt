@@ -1,10 +1,10 @@
-ghost use Rattle.std.specs.Prelude.{◌≡◌, ℕ, ◌+◌, ◌<◌, ◌≤◌, true, IsTrue, IfOk, IfSome, Option, length, sum_by, slice_index_or, if◌then◌else◌};
+ghost use Rattle.std.specs.Prelude.{◌≡◌, ℕ, ◌+◌, ◌<◌, ◌≤◌, true, All, AllPairs, IsTrue, IfOk, IfSome, Option, length, sum_by, slice_index_or, if◌then◌else◌};
 ghost use Rattle.lb_types_pins.specs.declared.kind.PinKind.{PinKind as AnyKind};
 ghost use Rattle.lb_types_pins.specs.Kinds.{kind_before, same_kind};
 ghost use Rattle.dual_cert_plan.specs.Plans.{groups_of, pins_in_rows};
 ghost use Rattle.pin_set.specs.Rows.{sent};
 ghost use Rattle.pin_groups.specs.Counts.{counted_kind, counted_with};
-ghost use Rattle.pin_moves.specs.Moves.{AreRisingCounts, AreGroupsOfCounts, counted_pins, moved_with, moved_to};
+ghost use Rattle.pin_moves.specs.Moves.{AreRisingCounts, AreGroupsOfCounts, counted_pins, move_before, moved_with, moved_to};
 
 use dual_cert_plan::Plan;
 use lb_types::{Place, ServerSet};
@@ -25,6 +25,8 @@ pub fn checked_moves(
         → moved_with moves.items place want cost ≡ counted_with counts.now place want cost)) }
     ensures sent { IfOk result (λ found. IfSome found (λ moves. (kind : AnyKind) (to : Option ℕ)
         → moved_to usable moves.items kind to ≡ sent plan.now.rows kind to)) }
+    ensures some { IfOk result (λ found. IfSome found (λ moves. All (λ m. 1 ≤ m.count) moves.items)) }
+    ensures rising { IfOk result (λ found. IfSome found (λ moves. AllPairs (λ a b. move_before a b ≡ true) moves.items)) }
 {
     if !rise(counts) || !are_counted(usable, plan.rows(), counts) {
         return Ok(None);
