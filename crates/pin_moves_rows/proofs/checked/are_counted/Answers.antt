@@ -12,9 +12,11 @@ loop-row-preserved c =
 
 pub loop-count-preserved : goal.loop-count-preserved
 loop-count-preserved c =
-    let counted = rw c.counted_kind.ensures at (c.if-not-is_counted-2.ensures refl) in
-    (c.loop-count.invariant.0, one_more (λ (n : PinCount). Counted c.args.usable c.args.rows.now c.args.counts.now (counted_kind c.args.usable n)) c.args.counts.now c.loop-count.count-index
-        c.count-item.result (omega arith) c.count-item.is counted c.loop-count.invariant.1)
+    let counted = rw c.counted_kind.ensures at (c.if-not-is_counted-2.ensures refl) in (
+      c.loop-count.invariant.0,
+      one_more (λ (n : PinCount). Counted c.args.usable c.args.rows.now c.args.counts.now (counted_kind c.args.usable n)) c.args.counts.now c.loop-count.count-index
+          c.count-item.result (omega arith) c.count-item.is counted c.loop-count.invariant.1,
+    )
 
 pub returns : goal.returns
 returns c = λ yes.
