@@ -1,0 +1,169 @@
+use crate::site::{Call, SERVER, Site, open_port, port_script, serve, target};
+use http_relay_dial::DialScript;
+use http_relay_head::HEAD_ROOM;
+use http_relay_serve::{Cause, Outcome};
+use http_relay_wire::{Script, WireFault};
+use lb_acl::{KeyLen, KeySample, StickOn, TableType};
+use lb_desk_model::ServedAs;
+use lb_desk_ports::{Asked, PortScript, Refused, ScriptedOpening};
+use lb_types::ServerId;
+
+pub(crate) const RESPONSE: &[u8] = b"HTTP/1.1 200 OK\r\n\r\nok";
+pub(crate) const POST: &[u8] = b"POST / HTTP/1.1\r\nContent-Length: 2\r\n\r\nhi";
+
+pub(crate) const BAD_REQUEST: &[u8] =
+    b"HTTP/1.1 400 Bad Request\r\nContent-Length: 0\r\nConnection: close\r\n\r\n";
+const REQUEST_TIMEOUT: &[u8] =
+    b"HTTP/1.1 408 Request Timeout\r\nContent-Length: 0\r\nConnection: close\r\n\r\n";
+const INTERNAL_SERVER_ERROR: &[u8] =
+    b"HTTP/1.1 500 Internal Server Error\r\nContent-Length: 0\r\nConnection: close\r\n\r\n";
+const BAD_GATEWAY: &[u8] =
+    b"HTTP/1.1 502 Bad Gateway\r\nContent-Length: 0\r\nConnection: close\r\n\r\n";
+const SERVICE_UNAVAILABLE: &[u8] =
+    b"HTTP/1.1 503 Service Unavailable\r\nContent-Length: 0\r\nConnection: close\r\n\r\n";
+const GATEWAY_TIMEOUT: &[u8] =
+    b"HTTP/1.1 504 Gateway Timeout\r\nContent-Length: 0\r\nConnection: close\r\n\r\n";
+
+const LONG: &[u8] = &[b'a'; HEAD_ROOM];
+
+// The server sends its response, and nothing fails.
+const ANSWERS: DialScript<'static> = Ok((RESPONSE, Script::SMOOTH));
+
+// This read of a wire fails so.
+pub(crate) const fn failing_read(at: u64, fault: WireFault) -> Script<'static> {
+    Script {
+        failing_read: Some((at, fault)),
+        ..Script::SMOOTH
+    }
+}
+
+// This write to a wire fails so.
+pub(crate) const fn failing_write(at: u64, fault: WireFault) -> Script<'static> {
+    Script {
+        failing_write: Some((at, fault)),
+        ..Script::SMOOTH
+    }
+}
+
+// The backend takes the head, and the request waits so long for a connection.
+pub(crate) fn site<'a>(pattern: &'a StickOn) -> Site<'a> {
+    Site {
+        takes: true,
+        target: target(Some(0)),
+        forwards_address: false,
+        pattern,
+    }
+}
+
+pub(crate) fn source() -> StickOn {
+    StickOn {
+        sample: KeySample::Source,
+        table: TableType::Ip,
+    }
+}
+
+// What stands in the client's bytes.
+#[test]
+fn a_bad_request_is_answered_400(rt: HostRuntime) {
+    let cases = [
+        (LONG, Cause::HeadTooLarge),
+        (b"GET / HTTP/1.1\r\nConnection: host\r\nHost: x\r\n\r\n", Cause::BadHead),
+        (
+            b"POST / HTTP/1.1\r\nContent-Length: 3\r\nTransfer-Encoding: chunked\r\n\r\n",
+            Cause::BothLengths,
+        ),
+        (b"GET / HTT", Cause::HeadCutShort),
+        (b"", Cause::HeadCutShort),
+        (b"POST / HTTP/1.1\r\nContent-Length: 3\r\n\r\nhi", Cause::BodyCutShort),
+        (
+            b"POST / HTTP/1.1\r\nTransfer-Encoding: chunked\r\n\r\nzz\r\n",
+            Cause::BadChunk,
+        ),
+    ];
+    let pattern = source();
+    for (input, cause) in cases {
+        let call = Call {
+            input,
+            client: Script::SMOOTH,
+            port: open_port(),
+            server: ANSWERS,
+        };
+        let served = serve(&rt, rt.alloc(), &site(&pattern), &call);
+        assert!(rt;
+            served.outcome == Outcome::Answered(cause)
+                && served.client.written() == BAD_REQUEST
+                && served.gave_back_its_slots(),
+            "{cause:?}"
+        );
+    }
+}
+
+// A good request of which backend or server make nothing.
+#[test]
+fn a_request_without_a_response_is_answered(rt: HostRuntime) {
+    let open = open_port();
+    let named = Asked::Served(ServerId::new(SERVER), ServedAs::Loose);
+    let other = Asked::Served(ServerId::new(SERVER + 1), ServedAs::Made);
+    let opening = |openings| port_script(named, openings, None);
+    let refusing = |at, refused| port_script(named, &[], Some((at, refused)));
+    let sends = |bytes, script| Ok((bytes, script));
+    let (broken, late) = (WireFault::Broken, WireFault::Timeout);
+    let cases = [
+        (refusing(0, Refused::Memory), ANSWERS, Cause::RequestRefused(Refused::Memory), INTERNAL_SERVER_ERROR),
+        (refusing(1, Refused::Worn), ANSWERS, Cause::RequestRefused(Refused::Worn), INTERNAL_SERVER_ERROR),
+        (port_script(Asked::NoSuchServer, &[], None), ANSWERS, Cause::NoSuchServer, INTERNAL_SERVER_ERROR),
+        (port_script(other, &[], None), ANSWERS, Cause::UnknownServer, INTERNAL_SERVER_ERROR),
+        (refusing(2, Refused::Worn), ANSWERS, Cause::OpenRefused(Refused::Worn), INTERNAL_SERVER_ERROR),
+        (open, sends(RESPONSE, failing_write(0, broken)), Cause::HeadNotTaken(broken), BAD_GATEWAY),
+        (open, sends(RESPONSE, failing_write(1, late)), Cause::BodyNotTaken(late), BAD_GATEWAY),
+        (open, sends(b"", Script::SMOOTH), Cause::NoResponse, BAD_GATEWAY),
+        (open, sends(RESPONSE, failing_read(0, broken)), Cause::ResponseBroken, BAD_GATEWAY),
+        (port_script(Asked::NoServer, &[], None), ANSWERS, Cause::NoServer, SERVICE_UNAVAILABLE),
+        (opening(&[ScriptedOpening::NotServing]), ANSWERS, Cause::NotServing, SERVICE_UNAVAILABLE),
+        (opening(&[ScriptedOpening::Full]), ANSWERS, Cause::QueueOver, SERVICE_UNAVAILABLE),
+        (open, Err(late), Cause::NotDialled(late), SERVICE_UNAVAILABLE),
+        (open, sends(RESPONSE, failing_read(0, late)), Cause::ResponseTimedOut, GATEWAY_TIMEOUT),
+    ];
+    let pattern = source();
+    for (port, server, cause, text) in cases {
+        let call = Call {
+            input: POST,
+            client: Script::SMOOTH,
+            port,
+            server,
+        };
+        let served = serve(&rt, rt.alloc(), &site(&pattern), &call);
+        assert!(rt;
+            served.outcome == Outcome::Answered(cause)
+                && served.client.written() == text
+                && served.gave_back_its_slots(),
+            "{cause:?}"
+        );
+    }
+}
+
+// A head that no backend takes, and a client that is too slow with its head: nobody is asked.
+#[test]
+fn a_head_without_a_backend_asks_nobody(rt: HostRuntime) {
+    let cases = [
+        (false, Script::SMOOTH, Cause::NoBackend, SERVICE_UNAVAILABLE),
+        (true, failing_read(0, WireFault::Timeout), Cause::HeadTimedOut, REQUEST_TIMEOUT),
+    ];
+    let pattern = source();
+    for (takes, client, cause, text) in cases {
+        let call = Call {
+            input: POST,
+            client,
+            port: open_port(),
+            server: ANSWERS,
+        };
+        let nowhere = Site { takes, ..site(&pattern) };
+        let served = serve(&rt, rt.alloc(), &nowhere, &call);
+        assert!(rt;
+            served.outcome == Outcome::Answered(cause)
+                && served.client.written() == text
+                && served.entries().is_empty(),
+            "{cause:?}"
+        );
+    }
+}
