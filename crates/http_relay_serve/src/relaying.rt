@@ -1,3 +1,4 @@
+ghost use Rattle.std.specs.Prelude.{◌<◌};
 ghost use Rattle.http_relay_dial.specs.Dials.{talk_of};
 ghost use Rattle.http_relay_serve.specs.Serves.{Places, ServesAt, port_seen, clock_seen, dialer_seen, scene};
 
@@ -23,15 +24,17 @@ fn ask<R, T: Routing, P: Port<R>>(
     requires { backend < T.backends routing.now }
     ensures { Places (T.routes routing.now) backend request (port_seen P.entries P.refusals port.old) (port_seen P.entries P.refusals port.new) result }
 {
-    match port.ask(rt, request) {
-        Ok(Asked::Served(server, _)) => {
-            routing
-                .target(backend, server)
-                .ok_or(AskFault::UnknownServer)
-        }
-        Ok(Asked::NoServer) => Err(AskFault::NoServer),
-        Ok(Asked::NoSuchServer) => Err(AskFault::NoSuchServer),
-        Err(refused) => Err(AskFault::Refused(refused)),
+    let asked = match port.ask(rt, request) {
+        Ok(asked) => asked,
+        Err(refused) => return Err(AskFault::Refused(refused)),
+    };
+    match asked {
+        Asked::Served(server, _) => match routing.target(backend, server) {
+            Some(target) => Ok(target),
+            None => Err(AskFault::UnknownServer),
+        },
+        Asked::NoServer => Err(AskFault::NoServer),
+        Asked::NoSuchServer => Err(AskFault::NoSuchServer),
     }
 }
 
