@@ -1,5 +1,5 @@
 -- The stages of a request at its backend.
-use Rattle.std.proofs.Common.{◌≡◌, ℕ, Bool, List, [], ◌∷◌, Option, Result, Ok, subst, sym, ap, ◌∙◌}
+use Rattle.std.proofs.Common.{◌≡◌, ℕ, Bool, List, [], ◌∷◌, Result, Ok, subst, sym, ap, ◌∙◌}
 use Rattle.http_relay_forward.specs.Forwarded.{forwarded}
 use Rattle.http_relay_forward.specs.Framing.{expects_continue}
 use Rattle.http_relay_forward.specs.declared.framing.BodyKind.{BodyKind}
@@ -45,7 +45,7 @@ pub visits : {S : Type 0} (server_of : S → ℕ) (routes : Routes) (backend : �
     → request ≡ outgoing routes backend read
     → UsesPort server_of target asked.entries new.entries asked.refusals new.refusals clock.told after.clock.told clock.pauses after.clock.pauses answer
     → UsesDialer target request before.dialer.dials after.dialer.dials before.dialer.talks after.dialer.talks
-        before.dialer.failures after.dialer.failures before.client after.client answer
+    before.dialer.failures after.dialer.failures before.client after.client answer
     → Visits server_of routes backend read old new before after answer
 visits server_of routes backend read old asked new clock before after target request answer asks is port dialer = record {
   target = target;

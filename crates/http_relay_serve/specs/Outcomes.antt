@@ -12,7 +12,6 @@ use Rattle.http_relay_body.specs.declared.response.CopyFault.{CopyFault}
 use Rattle.http_relay_body.specs.declared.response.CopyFault.TheVariants as copy
 use Rattle.http_relay_dial.specs.Dials.{Talk}
 use Rattle.http_relay_exchange.specs.Exchanges.{wrote, FailsToWrite}
-use Rattle.http_relay_exchange.specs.declared.fault.ExchangeFault.{ExchangeFault}
 use Rattle.http_relay_exchange.specs.declared.fault.ExchangeFault.TheVariants.{Send, Copy}
 use Rattle.http_relay_exchange.specs.declared.fault.SendFault.{SendFault}
 use Rattle.http_relay_exchange.specs.declared.fault.SendFault.TheVariants as send
@@ -25,11 +24,9 @@ use Rattle.http_relay_serve.specs.declared.cause.Cause.{Cause}
 use Rattle.http_relay_serve.specs.declared.cause.Cause.TheVariants as cause
 use Rattle.http_relay_serve.specs.declared.fault.AskFault.{AskFault}
 use Rattle.http_relay_serve.specs.declared.fault.AskFault.TheVariants as ask
-use Rattle.http_relay_serve.specs.declared.fault.BackendFault.{BackendFault}
 use Rattle.http_relay_serve.specs.declared.fault.BackendFault.TheVariants.{Memory, Ask, Visit}
 use Rattle.http_relay_serve.specs.declared.fault.ServeFault.{ServeFault}
 use Rattle.http_relay_serve.specs.declared.fault.ServeFault.TheVariants.{Head, NoBackend, Backend}
-use Rattle.http_relay_serve.specs.declared.outcome.DropCause.{DropCause}
 use Rattle.http_relay_serve.specs.declared.outcome.DropCause.TheVariants.{HeadBroken, ContinueNotTaken, BodyNotRead, ResponseCutShort, ResponseNotTaken, AnswerNotTaken}
 use Rattle.http_relay_serve.specs.declared.outcome.Outcome.{Outcome}
 use Rattle.http_relay_serve.specs.declared.outcome.Outcome.TheVariants.{Relayed, Answered, Dropped}

@@ -53,9 +53,9 @@ pub(crate) fn serve_at<R, T: Routing, P: Port<R>, K: Clock<R>, G, D: Dialer<R>, 
     ensures { ServesAt P.server_of (T.routes routing.now) backend read.now
         (port_seen P.entries P.refusals port.old) (port_seen P.entries P.refusals port.new)
         (scene (clock_seen K.told K.pauses worker.old.clock) (dialer_seen D.dials D.talks D.failures worker.old.dialer)
-            (talk_of C.written C.reading C.faults client.old))
+        (talk_of C.written C.reading C.faults client.old))
         (scene (clock_seen K.told K.pauses worker.new.clock) (dialer_seen D.dials D.talks D.failures worker.new.dialer)
-            (talk_of C.written C.reading C.faults client.new))
+        (talk_of C.written C.reading C.faults client.new))
         result }
 {
     let head = read.head();

@@ -27,9 +27,9 @@ pub fn serve_one<R, T: Routing, P: Port<R>, K: Clock<R>, G: Gate<R>, D: Dialer<R
     requires { T.backends routing.now ≤ length ports.old }
     ensures { Serves (port_seen P.entries P.refusals) P.server_of (T.routes routing.now) client.old.source ports.old ports.new
         (scene (clock_seen K.told K.pauses worker.old.clock) (dialer_seen D.dials D.talks D.failures worker.old.dialer)
-            (talk_of C.written C.reading C.faults client.old.wire))
+        (talk_of C.written C.reading C.faults client.old.wire))
         (scene (clock_seen K.told K.pauses worker.new.clock) (dialer_seen D.dials D.talks D.failures worker.new.dialer)
-            (talk_of C.written C.reading C.faults client.new.wire))
+        (talk_of C.written C.reading C.faults client.new.wire))
         result }
 {
     let relayed = relay(rt, alloc, worker, routing, ports, client, room);
@@ -49,9 +49,9 @@ fn relay<R, T: Routing, P: Port<R>, K: Clock<R>, G: Gate<R>, D: Dialer<R>, C: Wi
     requires { T.backends routing.now ≤ length ports.old }
     ensures { Relays (port_seen P.entries P.refusals) P.server_of (T.routes routing.now) client.old.source ports.old ports.new
         (scene (clock_seen K.told K.pauses worker.old.clock) (dialer_seen D.dials D.talks D.failures worker.old.dialer)
-            (talk_of C.written C.reading C.faults client.old.wire))
+        (talk_of C.written C.reading C.faults client.old.wire))
         (scene (clock_seen K.told K.pauses worker.new.clock) (dialer_seen D.dials D.talks D.failures worker.new.dialer)
-            (talk_of C.written C.reading C.faults client.new.wire))
+        (talk_of C.written C.reading C.faults client.new.wire))
         result }
 {
     let read = match read_head(alloc, &mut client.wire, room, client.source) {
@@ -62,7 +62,16 @@ fn relay<R, T: Routing, P: Port<R>, K: Clock<R>, G: Gate<R>, D: Dialer<R>, C: Wi
     let Some(backend) = routing.backend(&read.head()) else {
         return Err(ServeFault::NoBackend);
     };
-    match serve_at(rt, alloc, worker, routing, backend, &mut ports[backend], &read, &mut client.wire) {
+    match serve_at(
+        rt,
+        alloc,
+        worker,
+        routing,
+        backend,
+        &mut ports[backend],
+        &read,
+        &mut client.wire,
+    ) {
         Ok(count) => Ok(count),
         Err(fault) => Err(ServeFault::Backend(fault)),
     }

@@ -1,4 +1,4 @@
-use Rattle.std.proofs.Common.{rules, ◌≡◌, ◌<◌, ℕ, length, get_or, Some, refl, sym, subst, arith}
+use Rattle.std.proofs.Common.{◌≡◌, ◌<◌, length, get_or, Some, refl, sym, subst, arith}
 use Rattle.http_relay_dial.specs.Dials.{talk_of}
 use Rattle.lb_acl.specs.HeadView.{HeadView}
 use Rattle.http_relay_serve.proofs.Places.{get_at}
