@@ -9,18 +9,24 @@ use lb_desk_ports::{Asked, PortScript, Refused, ScriptedOpening};
 use lb_types::ServerId;
 
 pub(crate) const RESPONSE: &[u8] = b"HTTP/1.1 200 OK\r\n\r\nok";
+
 pub(crate) const POST: &[u8] = b"POST / HTTP/1.1\r\nContent-Length: 2\r\n\r\nhi";
 
 pub(crate) const BAD_REQUEST: &[u8] =
     b"HTTP/1.1 400 Bad Request\r\nContent-Length: 0\r\nConnection: close\r\n\r\n";
+
 const REQUEST_TIMEOUT: &[u8] =
     b"HTTP/1.1 408 Request Timeout\r\nContent-Length: 0\r\nConnection: close\r\n\r\n";
+
 const INTERNAL_SERVER_ERROR: &[u8] =
     b"HTTP/1.1 500 Internal Server Error\r\nContent-Length: 0\r\nConnection: close\r\n\r\n";
+
 const BAD_GATEWAY: &[u8] =
     b"HTTP/1.1 502 Bad Gateway\r\nContent-Length: 0\r\nConnection: close\r\n\r\n";
+
 const SERVICE_UNAVAILABLE: &[u8] =
     b"HTTP/1.1 503 Service Unavailable\r\nContent-Length: 0\r\nConnection: close\r\n\r\n";
+
 const GATEWAY_TIMEOUT: &[u8] =
     b"HTTP/1.1 504 Gateway Timeout\r\nContent-Length: 0\r\nConnection: close\r\n\r\n";
 
@@ -67,14 +73,20 @@ pub(crate) fn source() -> StickOn {
 fn a_bad_request_is_answered_400(rt: HostRuntime) {
     let cases = [
         (LONG, Cause::HeadTooLarge),
-        (b"GET / HTTP/1.1\r\nConnection: host\r\nHost: x\r\n\r\n", Cause::BadHead),
+        (
+            b"GET / HTTP/1.1\r\nConnection: host\r\nHost: x\r\n\r\n",
+            Cause::BadHead,
+        ),
         (
             b"POST / HTTP/1.1\r\nContent-Length: 3\r\nTransfer-Encoding: chunked\r\n\r\n",
             Cause::BothLengths,
         ),
         (b"GET / HTT", Cause::HeadCutShort),
         (b"", Cause::HeadCutShort),
-        (b"POST / HTTP/1.1\r\nContent-Length: 3\r\n\r\nhi", Cause::BodyCutShort),
+        (
+            b"POST / HTTP/1.1\r\nContent-Length: 3\r\n\r\nhi",
+            Cause::BodyCutShort,
+        ),
         (
             b"POST / HTTP/1.1\r\nTransfer-Encoding: chunked\r\n\r\nzz\r\n",
             Cause::BadChunk,
@@ -109,20 +121,90 @@ fn a_request_without_a_response_is_answered(rt: HostRuntime) {
     let sends = |bytes, script| Ok((bytes, script));
     let (broken, late) = (WireFault::Broken, WireFault::Timeout);
     let cases = [
-        (refusing(0, Refused::Memory), ANSWERS, Cause::RequestRefused(Refused::Memory), INTERNAL_SERVER_ERROR),
-        (refusing(1, Refused::Worn), ANSWERS, Cause::RequestRefused(Refused::Worn), INTERNAL_SERVER_ERROR),
-        (port_script(Asked::NoSuchServer, &[], None), ANSWERS, Cause::NoSuchServer, INTERNAL_SERVER_ERROR),
-        (port_script(other, &[], None), ANSWERS, Cause::UnknownServer, INTERNAL_SERVER_ERROR),
-        (refusing(2, Refused::Worn), ANSWERS, Cause::OpenRefused(Refused::Worn), INTERNAL_SERVER_ERROR),
-        (open, sends(RESPONSE, failing_write(0, broken)), Cause::HeadNotTaken(broken), BAD_GATEWAY),
-        (open, sends(RESPONSE, failing_write(1, late)), Cause::BodyNotTaken(late), BAD_GATEWAY),
-        (open, sends(b"", Script::SMOOTH), Cause::NoResponse, BAD_GATEWAY),
-        (open, sends(RESPONSE, failing_read(0, broken)), Cause::ResponseBroken, BAD_GATEWAY),
-        (port_script(Asked::NoServer, &[], None), ANSWERS, Cause::NoServer, SERVICE_UNAVAILABLE),
-        (opening(&[ScriptedOpening::NotServing]), ANSWERS, Cause::NotServing, SERVICE_UNAVAILABLE),
-        (opening(&[ScriptedOpening::Full]), ANSWERS, Cause::QueueOver, SERVICE_UNAVAILABLE),
-        (open, Err(late), Cause::NotDialled(late), SERVICE_UNAVAILABLE),
-        (open, sends(RESPONSE, failing_read(0, late)), Cause::ResponseTimedOut, GATEWAY_TIMEOUT),
+        (
+            refusing(0, Refused::Memory),
+            ANSWERS,
+            Cause::RequestRefused(Refused::Memory),
+            INTERNAL_SERVER_ERROR,
+        ),
+        (
+            refusing(1, Refused::Worn),
+            ANSWERS,
+            Cause::RequestRefused(Refused::Worn),
+            INTERNAL_SERVER_ERROR,
+        ),
+        (
+            port_script(Asked::NoSuchServer, &[], None),
+            ANSWERS,
+            Cause::NoSuchServer,
+            INTERNAL_SERVER_ERROR,
+        ),
+        (
+            port_script(other, &[], None),
+            ANSWERS,
+            Cause::UnknownServer,
+            INTERNAL_SERVER_ERROR,
+        ),
+        (
+            refusing(2, Refused::Worn),
+            ANSWERS,
+            Cause::OpenRefused(Refused::Worn),
+            INTERNAL_SERVER_ERROR,
+        ),
+        (
+            open,
+            sends(RESPONSE, failing_write(0, broken)),
+            Cause::HeadNotTaken(broken),
+            BAD_GATEWAY,
+        ),
+        (
+            open,
+            sends(RESPONSE, failing_write(1, late)),
+            Cause::BodyNotTaken(late),
+            BAD_GATEWAY,
+        ),
+        (
+            open,
+            sends(b"", Script::SMOOTH),
+            Cause::NoResponse,
+            BAD_GATEWAY,
+        ),
+        (
+            open,
+            sends(RESPONSE, failing_read(0, broken)),
+            Cause::ResponseBroken,
+            BAD_GATEWAY,
+        ),
+        (
+            port_script(Asked::NoServer, &[], None),
+            ANSWERS,
+            Cause::NoServer,
+            SERVICE_UNAVAILABLE,
+        ),
+        (
+            opening(&[ScriptedOpening::NotServing]),
+            ANSWERS,
+            Cause::NotServing,
+            SERVICE_UNAVAILABLE,
+        ),
+        (
+            opening(&[ScriptedOpening::Full]),
+            ANSWERS,
+            Cause::QueueOver,
+            SERVICE_UNAVAILABLE,
+        ),
+        (
+            open,
+            Err(late),
+            Cause::NotDialled(late),
+            SERVICE_UNAVAILABLE,
+        ),
+        (
+            open,
+            sends(RESPONSE, failing_read(0, late)),
+            Cause::ResponseTimedOut,
+            GATEWAY_TIMEOUT,
+        ),
     ];
     let pattern = source();
     for (port, server, cause, text) in cases {
@@ -147,7 +229,12 @@ fn a_request_without_a_response_is_answered(rt: HostRuntime) {
 fn a_head_without_a_backend_asks_nobody(rt: HostRuntime) {
     let cases = [
         (false, Script::SMOOTH, Cause::NoBackend, SERVICE_UNAVAILABLE),
-        (true, failing_read(0, WireFault::Timeout), Cause::HeadTimedOut, REQUEST_TIMEOUT),
+        (
+            true,
+            failing_read(0, WireFault::Timeout),
+            Cause::HeadTimedOut,
+            REQUEST_TIMEOUT,
+        ),
     ];
     let pattern = source();
     for (takes, client, cause, text) in cases {
@@ -157,7 +244,10 @@ fn a_head_without_a_backend_asks_nobody(rt: HostRuntime) {
             port: open_port(),
             server: ANSWERS,
         };
-        let nowhere = Site { takes, ..site(&pattern) };
+        let nowhere = Site {
+            takes,
+            ..site(&pattern)
+        };
         let served = serve(&rt, rt.alloc(), &nowhere, &call);
         assert!(rt;
             served.outcome == Outcome::Answered(cause)

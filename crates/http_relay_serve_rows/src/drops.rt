@@ -4,7 +4,9 @@ use http_relay_serve::{Cause, DropCause, Outcome};
 use http_relay_wire::{Script, WireFault};
 
 const CONTINUE: &[u8] = b"HTTP/1.1 100 Continue\r\n\r\n";
+
 const WAITING: &[u8] = b"POST / HTTP/1.1\r\nContent-Length: 2\r\nExpect: 100-continue\r\n\r\n";
+
 const BAD: &[u8] = b"GET /\r\n\r\n";
 
 // What the client got before it was dropped, and that the slot was given back.
@@ -13,11 +15,41 @@ fn a_fault_of_the_client_or_behind_the_first_byte_drops(rt: HostRuntime) {
     let (broken, late) = (WireFault::Broken, WireFault::Timeout);
     let smooth = Script::SMOOTH;
     let cases = [
-        (POST, failing_read(0, broken), smooth, DropCause::HeadBroken, b"".as_slice()),
-        (WAITING, failing_write(0, broken), smooth, DropCause::ContinueNotTaken(broken), b""),
-        (WAITING, failing_read(1, late), smooth, DropCause::BodyNotRead(late), CONTINUE),
-        (POST, smooth, failing_read(1, broken), DropCause::ResponseCutShort(broken), RESPONSE),
-        (POST, failing_write(0, late), smooth, DropCause::ResponseNotTaken(late), b""),
+        (
+            POST,
+            failing_read(0, broken),
+            smooth,
+            DropCause::HeadBroken,
+            b"".as_slice(),
+        ),
+        (
+            WAITING,
+            failing_write(0, broken),
+            smooth,
+            DropCause::ContinueNotTaken(broken),
+            b"",
+        ),
+        (
+            WAITING,
+            failing_read(1, late),
+            smooth,
+            DropCause::BodyNotRead(late),
+            CONTINUE,
+        ),
+        (
+            POST,
+            smooth,
+            failing_read(1, broken),
+            DropCause::ResponseCutShort(broken),
+            RESPONSE,
+        ),
+        (
+            POST,
+            failing_write(0, late),
+            smooth,
+            DropCause::ResponseNotTaken(late),
+            b"",
+        ),
         (
             BAD,
             failing_write(0, broken),

@@ -32,7 +32,10 @@ fn a_request_goes_to_its_server(rt: HostRuntime) -> Result<(), Fail> {
         ),
     ];
     let pattern = source();
-    let forwarding = Site { forwards_address: true, ..site(&pattern) };
+    let forwarding = Site {
+        forwards_address: true,
+        ..site(&pattern)
+    };
     for (input, outcome, sent, got) in cases {
         let call = Call {
             input,

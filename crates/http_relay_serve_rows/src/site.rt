@@ -15,6 +15,7 @@ use lb_desk_ports::{
 use lb_types::{Moment, ServerId};
 use std::alloc::{AllocError, Global};
 use std::net::Ipv4Addr;
+use std::slice;
 
 /// The one server of the site's backend.
 pub(crate) const SERVER: u8 = 1;
@@ -66,7 +67,11 @@ impl Routing for Site<'_> {
     }
 
     fn target(&self, _backend: usize, server: ServerId) -> Option<Target> {
-        if server == self.target.server { Some(self.target) } else { None }
+        if server == self.target.server {
+            Some(self.target)
+        } else {
+            None
+        }
     }
 }
 
@@ -103,7 +108,11 @@ pub(crate) fn port_script<'a>(
 
 /// A port that gives each request the site's server, and opens each connection.
 pub(crate) fn open_port() -> PortScript<'static> {
-    port_script(Asked::Served(ServerId::new(SERVER), ServedAs::Loose), &[], None)
+    port_script(
+        Asked::Served(ServerId::new(SERVER), ServedAs::Loose),
+        &[],
+        None,
+    )
 }
 
 /// One request: what its client sends, and what port and server answer.
@@ -125,7 +134,12 @@ pub(crate) struct Served<'a> {
 }
 
 /// Serves the request at the site, with a clock that stands at 7 ms, for a client at 10.0.0.7.
-pub(crate) fn serve<'a, R>(rt: &R, alloc: Global, site: &Site<'_>, call: &'a Call<'a>) -> Served<'a> {
+pub(crate) fn serve<'a, R>(
+    rt: &R,
+    alloc: Global,
+    site: &Site<'_>,
+    call: &'a Call<'a>,
+) -> Served<'a> {
     let mut worker = Worker {
         clock: ScriptedClock::new(alloc, 7),
         gate: OpenGate,
@@ -168,6 +182,9 @@ impl Served<'_> {
     }
 
     fn count(&self, reply: &Reply) -> usize {
-        self.entries().iter().filter(|entry| entry.reply == *reply).count()
+        self.entries()
+            .iter()
+            .filter(|entry| entry.reply == *reply)
+            .count()
     }
 }
