@@ -1,4 +1,4 @@
-use crate::site::{Call, SERVER, Site, open_port, port_script, serve, target};
+use crate::site::{Call, SERVER, Site, open_port, port_script, serve, serving_port, target};
 use http_relay_dial::DialScript;
 use http_relay_head::HEAD_ROOM;
 use http_relay_serve::{Cause, Outcome};
@@ -32,8 +32,17 @@ const GATEWAY_TIMEOUT: &[u8] =
 
 const LONG: &[u8] = &[b'a'; HEAD_ROOM];
 
+pub(crate) const BROKEN: WireFault = WireFault::Broken;
+
+pub(crate) const LATE: WireFault = WireFault::Timeout;
+
 // The server sends its response, and nothing fails.
 const ANSWERS: DialScript<'static> = Ok((RESPONSE, Script::SMOOTH));
+
+// The server sends this, and its wire behaves so.
+fn sends(bytes: &'static [u8], script: Script<'static>) -> DialScript<'static> {
+    Ok((bytes, script))
+}
 
 // This read of a wire fails so.
 pub(crate) const fn failing_read(at: u64, fault: WireFault) -> Script<'static> {
@@ -110,108 +119,103 @@ fn a_bad_request_is_answered_400(rt: HostRuntime) {
     }
 }
 
-// A good request of which backend or server make nothing.
+// A good request for which the backend has no connection.
 #[test]
-fn a_request_without_a_response_is_answered(rt: HostRuntime) {
-    let open = open_port();
-    let named = Asked::Served(ServerId::new(SERVER), ServedAs::Loose);
+fn a_request_without_a_connection_is_answered(rt: HostRuntime) {
     let other = Asked::Served(ServerId::new(SERVER + 1), ServedAs::Made);
-    let opening = |openings| port_script(named, openings, None);
-    let refusing = |at, refused| port_script(named, &[], Some((at, refused)));
-    let sends = |bytes, script| Ok((bytes, script));
-    let (broken, late) = (WireFault::Broken, WireFault::Timeout);
     let cases = [
         (
-            refusing(0, Refused::Memory),
-            ANSWERS,
+            serving_port(&[], Some((0, Refused::Memory))),
             Cause::RequestRefused(Refused::Memory),
             INTERNAL_SERVER_ERROR,
         ),
         (
-            refusing(1, Refused::Worn),
-            ANSWERS,
+            serving_port(&[], Some((1, Refused::Worn))),
             Cause::RequestRefused(Refused::Worn),
             INTERNAL_SERVER_ERROR,
         ),
         (
             port_script(Asked::NoSuchServer, &[], None),
-            ANSWERS,
             Cause::NoSuchServer,
             INTERNAL_SERVER_ERROR,
         ),
         (
             port_script(other, &[], None),
-            ANSWERS,
             Cause::UnknownServer,
             INTERNAL_SERVER_ERROR,
         ),
         (
-            refusing(2, Refused::Worn),
-            ANSWERS,
+            serving_port(&[], Some((2, Refused::Worn))),
             Cause::OpenRefused(Refused::Worn),
             INTERNAL_SERVER_ERROR,
         ),
         (
-            open,
-            sends(RESPONSE, failing_write(0, broken)),
-            Cause::HeadNotTaken(broken),
-            BAD_GATEWAY,
-        ),
-        (
-            open,
-            sends(RESPONSE, failing_write(1, late)),
-            Cause::BodyNotTaken(late),
-            BAD_GATEWAY,
-        ),
-        (
-            open,
-            sends(b"", Script::SMOOTH),
-            Cause::NoResponse,
-            BAD_GATEWAY,
-        ),
-        (
-            open,
-            sends(RESPONSE, failing_read(0, broken)),
-            Cause::ResponseBroken,
-            BAD_GATEWAY,
-        ),
-        (
             port_script(Asked::NoServer, &[], None),
-            ANSWERS,
             Cause::NoServer,
             SERVICE_UNAVAILABLE,
         ),
         (
-            opening(&[ScriptedOpening::NotServing]),
-            ANSWERS,
+            serving_port(&[ScriptedOpening::NotServing], None),
             Cause::NotServing,
             SERVICE_UNAVAILABLE,
         ),
         (
-            opening(&[ScriptedOpening::Full]),
-            ANSWERS,
+            serving_port(&[ScriptedOpening::Full], None),
             Cause::QueueOver,
             SERVICE_UNAVAILABLE,
         ),
+    ];
+    let pattern = source();
+    for (port, cause, text) in cases {
+        let call = Call {
+            input: POST,
+            client: Script::SMOOTH,
+            port,
+            server: ANSWERS,
+        };
+        let served = serve(&rt, rt.alloc(), &site(&pattern), &call);
+        assert!(rt;
+            served.outcome == Outcome::Answered(cause)
+                && served.client.written() == text
+                && served.gave_back_its_slots(),
+            "{cause:?}"
+        );
+    }
+}
+
+// A good request to which the server gives no response.
+#[test]
+fn a_request_without_a_response_is_answered(rt: HostRuntime) {
+    let cases = [
+        (Err(LATE), Cause::NotDialled(LATE), SERVICE_UNAVAILABLE),
         (
-            open,
-            Err(late),
-            Cause::NotDialled(late),
-            SERVICE_UNAVAILABLE,
+            sends(RESPONSE, failing_write(0, BROKEN)),
+            Cause::HeadNotTaken(BROKEN),
+            BAD_GATEWAY,
         ),
         (
-            open,
-            sends(RESPONSE, failing_read(0, late)),
+            sends(RESPONSE, failing_write(1, LATE)),
+            Cause::BodyNotTaken(LATE),
+            BAD_GATEWAY,
+        ),
+        (sends(b"", Script::SMOOTH), Cause::NoResponse, BAD_GATEWAY),
+        (
+            sends(RESPONSE, failing_read(0, BROKEN)),
+            Cause::ResponseBroken,
+            BAD_GATEWAY,
+        ),
+        (
+            sends(RESPONSE, failing_read(0, LATE)),
             Cause::ResponseTimedOut,
             GATEWAY_TIMEOUT,
         ),
     ];
     let pattern = source();
-    for (port, server, cause, text) in cases {
+    for (server, cause, text) in cases {
         let call = Call {
             input: POST,
             client: Script::SMOOTH,
-            port,
+            port: open_port(),
             server,
         };
         let served = serve(&rt, rt.alloc(), &site(&pattern), &call);

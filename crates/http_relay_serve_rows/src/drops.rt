@@ -1,7 +1,7 @@
-use crate::causes::{BAD_REQUEST, POST, RESPONSE, failing_read, failing_write, site, source};
+use crate::causes::{BROKEN, LATE, POST, RESPONSE, failing_read, failing_write, site, source};
 use crate::site::{Call, open_port, serve};
 use http_relay_serve::{Cause, DropCause, Outcome};
-use http_relay_wire::{Script, WireFault};
+use http_relay_wire::Script;
 
 const CONTINUE: &[u8] = b"HTTP/1.1 100 Continue\r\n\r\n";
 
@@ -12,49 +12,48 @@ const BAD: &[u8] = b"GET /\r\n\r\n";
 // What the client got before it was dropped, and that the slot was given back.
 #[test]
 fn a_fault_of_the_client_or_behind_the_first_byte_drops(rt: HostRuntime) {
-    let (broken, late) = (WireFault::Broken, WireFault::Timeout);
     let smooth = Script::SMOOTH;
     let cases = [
         (
             POST,
-            failing_read(0, broken),
+            failing_read(0, BROKEN),
             smooth,
             DropCause::HeadBroken,
             b"".as_slice(),
         ),
         (
             WAITING,
-            failing_write(0, broken),
+            failing_write(0, BROKEN),
             smooth,
-            DropCause::ContinueNotTaken(broken),
+            DropCause::ContinueNotTaken(BROKEN),
             b"",
         ),
         (
             WAITING,
-            failing_read(1, late),
+            failing_read(1, LATE),
             smooth,
-            DropCause::BodyNotRead(late),
+            DropCause::BodyNotRead(LATE),
             CONTINUE,
         ),
         (
             POST,
             smooth,
-            failing_read(1, broken),
-            DropCause::ResponseCutShort(broken),
+            failing_read(1, BROKEN),
+            DropCause::ResponseCutShort(BROKEN),
             RESPONSE,
         ),
         (
             POST,
-            failing_write(0, late),
+            failing_write(0, LATE),
             smooth,
-            DropCause::ResponseNotTaken(late),
+            DropCause::ResponseNotTaken(LATE),
             b"",
         ),
         (
             BAD,
-            failing_write(0, broken),
+            failing_write(0, BROKEN),
             smooth,
-            DropCause::AnswerNotTaken(Cause::BadHead, broken),
+            DropCause::AnswerNotTaken(Cause::BadHead, BROKEN),
             b"",
         ),
     ];

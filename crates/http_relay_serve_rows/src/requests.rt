@@ -1,4 +1,4 @@
-use crate::causes::{BAD_REQUEST, RESPONSE, site, source};
+use crate::causes::{RESPONSE, site, source};
 use crate::site::{Call, SERVER, Site, open_port, serve};
 use http_relay_serve::{Cause, Outcome};
 use http_relay_wire::Script;

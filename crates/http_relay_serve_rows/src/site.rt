@@ -106,13 +106,18 @@ pub(crate) fn port_script<'a>(
     }
 }
 
+/// A port that gives each request the site's server, answers so to requests for a connection, and refuses this event.
+pub(crate) fn serving_port<'a>(
+    openings: &'a [ScriptedOpening],
+    refusing: Option<(u64, Refused)>,
+) -> PortScript<'a> {
+    let asked = Asked::Served(ServerId::new(SERVER), ServedAs::Loose);
+    port_script(asked, openings, refusing)
+}
+
 /// A port that gives each request the site's server, and opens each connection.
 pub(crate) fn open_port() -> PortScript<'static> {
-    port_script(
-        Asked::Served(ServerId::new(SERVER), ServedAs::Loose),
-        &[],
-        None,
-    )
+    serving_port(&[], None)
 }
 
 /// One request: what its client sends, and what port and server answer.
@@ -130,7 +135,7 @@ pub(crate) struct Served<'a> {
     pub(crate) outcome: Outcome,
     pub(crate) client: ScriptedWire<'a>,
     pub(crate) dialer: ScriptedDialer<'a>,
-    pub(crate) ports: [ScriptedPort<'a>; 1],
+    pub(crate) port: ScriptedPort<'a>,
 }
 
 /// Serves the request at the site, with a clock that stands at 7 ms, for a client at 10.0.0.7.
@@ -160,18 +165,19 @@ pub(crate) fn serve<'a, R>(
         &mut client,
         &mut room,
     );
+    let [port] = ports;
     Served {
         outcome,
         client: client.wire,
         dialer: worker.dialer,
-        ports,
+        port,
     }
 }
 
 impl Served<'_> {
     /// What was asked of the backend, and what it replied.
     pub(crate) fn entries(&self) -> &[Entry] {
-        self.ports[0].entries()
+        self.port.entries()
     }
 
     /// Whether as many connections were given back as were opened.
