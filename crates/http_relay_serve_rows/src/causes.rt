@@ -1,4 +1,4 @@
-use crate::site::{Call, SERVER, Site, open_port, port_script, serve, serving_port, target};
+use crate::site::{Call, SERVER, Site, its_server, open_port, port_script, serve, target};
 use http_relay_dial::DialScript;
 use http_relay_head::HEAD_ROOM;
 use http_relay_serve::{Cause, Outcome};
@@ -7,6 +7,7 @@ use lb_acl::{KeyLen, KeySample, StickOn, TableType};
 use lb_desk_model::ServedAs;
 use lb_desk_ports::{Asked, PortScript, Refused, ScriptedOpening};
 use lb_types::ServerId;
+use std::test::Fail;
 
 pub(crate) const RESPONSE: &[u8] = b"HTTP/1.1 200 OK\r\n\r\nok";
 
@@ -79,7 +80,7 @@ pub(crate) fn source() -> StickOn {
 
 // What stands in the client's bytes.
 #[test]
-fn a_bad_request_is_answered_400(rt: HostRuntime) {
+fn a_bad_request_is_answered_400(rt: HostRuntime) -> Result<(), Fail> {
     let cases = [
         (LONG, Cause::HeadTooLarge),
         (
@@ -109,7 +110,7 @@ fn a_bad_request_is_answered_400(rt: HostRuntime) {
             port: open_port(),
             server: ANSWERS,
         };
-        let served = serve(&rt, rt.alloc(), &site(&pattern), &call);
+        let served = serve(&rt, rt.alloc(), &site(&pattern), &call)?;
         assert!(rt;
             served.outcome == Outcome::Answered(cause)
                 && served.client.written() == BAD_REQUEST
@@ -117,63 +118,84 @@ fn a_bad_request_is_answered_400(rt: HostRuntime) {
             "{cause:?}"
         );
     }
+    Ok(())
 }
 
 // A good request for which the backend has no connection.
 #[test]
-fn a_request_without_a_connection_is_answered(rt: HostRuntime) {
-    let other = Asked::Served(ServerId::new(SERVER + 1), ServedAs::Made);
+fn a_request_without_a_connection_is_answered(rt: HostRuntime) -> Result<(), Fail> {
+    let (good, other) = (
+        served(),
+        Asked::Served(ServerId::new(SERVER + 1), ServedAs::Made),
+    );
+    let opens = [].as_slice();
     let cases = [
         (
-            serving_port(&[], Some((0, Refused::Memory))),
+            good,
+            opens,
+            Some((0, Refused::Memory)),
             Cause::RequestRefused(Refused::Memory),
             INTERNAL_SERVER_ERROR,
         ),
         (
-            serving_port(&[], Some((1, Refused::Worn))),
+            good,
+            opens,
+            Some((1, Refused::Worn)),
             Cause::RequestRefused(Refused::Worn),
             INTERNAL_SERVER_ERROR,
         ),
         (
-            port_script(Asked::NoSuchServer, &[], None),
+            Asked::NoSuchServer,
+            opens,
+            None,
             Cause::NoSuchServer,
             INTERNAL_SERVER_ERROR,
         ),
         (
-            port_script(other, &[], None),
+            other,
+            opens,
+            None,
             Cause::UnknownServer,
             INTERNAL_SERVER_ERROR,
         ),
         (
-            serving_port(&[], Some((2, Refused::Worn))),
+            good,
+            opens,
+            Some((2, Refused::Worn)),
             Cause::OpenRefused(Refused::Worn),
             INTERNAL_SERVER_ERROR,
         ),
         (
-            port_script(Asked::NoServer, &[], None),
+            Asked::NoServer,
+            opens,
+            None,
             Cause::NoServer,
             SERVICE_UNAVAILABLE,
         ),
         (
-            serving_port(&[ScriptedOpening::NotServing], None),
+            good,
+            &[ScriptedOpening::NotServing],
+            None,
             Cause::NotServing,
             SERVICE_UNAVAILABLE,
         ),
         (
-            serving_port(&[ScriptedOpening::Full], None),
+            good,
+            &[ScriptedOpening::Full],
+            None,
             Cause::QueueOver,
             SERVICE_UNAVAILABLE,
         ),
     ];
     let pattern = source();
-    for (port, cause, text) in cases {
+    for (asked, openings, refusing, cause, text) in cases {
         let call = Call {
             input: POST,
             client: Script::SMOOTH,
-            port,
+            port: port_script(asked, openings, refusing),
             server: ANSWERS,
         };
-        let served = serve(&rt, rt.alloc(), &site(&pattern), &call);
+        let served = serve(&rt, rt.alloc(), &site(&pattern), &call)?;
         assert!(rt;
             served.outcome == Outcome::Answered(cause)
                 && served.client.written() == text
@@ -181,11 +203,12 @@ fn a_request_without_a_connection_is_answered(rt: HostRuntime) {
             "{cause:?}"
         );
     }
+    Ok(())
 }
 
 // A good request to which the server gives no response.
 #[test]
-fn a_request_without_a_response_is_answered(rt: HostRuntime) {
+fn a_request_without_a_response_is_answered(rt: HostRuntime) -> Result<(), Fail> {
     let cases = [
         (Err(LATE), Cause::NotDialled(LATE), SERVICE_UNAVAILABLE),
         (
@@ -218,7 +241,7 @@ fn a_request_without_a_response_is_answered(rt: HostRuntime) {
             port: open_port(),
             server,
         };
-        let served = serve(&rt, rt.alloc(), &site(&pattern), &call);
+        let served = serve(&rt, rt.alloc(), &site(&pattern), &call)?;
         assert!(rt;
             served.outcome == Outcome::Answered(cause)
                 && served.client.written() == text
@@ -226,11 +249,12 @@ fn a_request_without_a_response_is_answered(rt: HostRuntime) {
             "{cause:?}"
         );
     }
+    Ok(())
 }
 
 // A head that no backend takes, and a client that is too slow with its head: nobody is asked.
 #[test]
-fn a_head_without_a_backend_asks_nobody(rt: HostRuntime) {
+fn a_head_without_a_backend_asks_nobody(rt: HostRuntime) -> Result<(), Fail> {
     let cases = [
         (false, Script::SMOOTH, Cause::NoBackend, SERVICE_UNAVAILABLE),
         (
@@ -252,7 +276,7 @@ fn a_head_without_a_backend_asks_nobody(rt: HostRuntime) {
             takes,
             ..site(&pattern)
         };
-        let served = serve(&rt, rt.alloc(), &nowhere, &call);
+        let served = serve(&rt, rt.alloc(), &nowhere, &call)?;
         assert!(rt;
             served.outcome == Outcome::Answered(cause)
                 && served.client.written() == text
@@ -260,4 +284,5 @@ fn a_head_without_a_backend_asks_nobody(rt: HostRuntime) {
             "{cause:?}"
         );
     }
+    Ok(())
 }

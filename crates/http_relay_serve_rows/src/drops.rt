@@ -2,6 +2,7 @@ use crate::causes::{BROKEN, LATE, POST, RESPONSE, failing_read, failing_write, s
 use crate::site::{Call, open_port, serve};
 use http_relay_serve::{Cause, DropCause, Outcome};
 use http_relay_wire::Script;
+use std::test::Fail;
 
 const CONTINUE: &[u8] = b"HTTP/1.1 100 Continue\r\n\r\n";
 
@@ -11,7 +12,7 @@ const BAD: &[u8] = b"GET /\r\n\r\n";
 
 // What the client got before it was dropped, and that the slot was given back.
 #[test]
-fn a_fault_of_the_client_or_behind_the_first_byte_drops(rt: HostRuntime) {
+fn a_fault_of_the_client_or_behind_the_first_byte_drops(rt: HostRuntime) -> Result<(), Fail> {
     let smooth = Script::SMOOTH;
     let cases = [
         (
@@ -65,7 +66,7 @@ fn a_fault_of_the_client_or_behind_the_first_byte_drops(rt: HostRuntime) {
             port: open_port(),
             server: Ok((RESPONSE, server)),
         };
-        let served = serve(&rt, rt.alloc(), &site(&pattern), &call);
+        let served = serve(&rt, rt.alloc(), &site(&pattern), &call)?;
         assert!(rt;
             served.outcome == Outcome::Dropped(cause)
                 && served.client.written() == got
@@ -73,4 +74,5 @@ fn a_fault_of_the_client_or_behind_the_first_byte_drops(rt: HostRuntime) {
             "{cause:?}"
         );
     }
+    Ok(())
 }

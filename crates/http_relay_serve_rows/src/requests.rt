@@ -43,7 +43,7 @@ fn a_request_goes_to_its_server(rt: HostRuntime) -> Result<(), Fail> {
             port: open_port(),
             server: Ok((RESPONSE, Script::SMOOTH)),
         };
-        let served = serve(&rt, rt.alloc(), &forwarding, &call);
+        let served = serve(&rt, rt.alloc(), &forwarding, &call)?;
         let talks = served.dialer.talks().ok_or("the dialer forgot")?;
         assert!(rt;
             served.outcome == outcome
@@ -69,7 +69,7 @@ fn the_backend_is_asked_for_the_heads_key(rt: HostRuntime) -> Result<(), Fail> {
         port: open_port(),
         server: Ok((RESPONSE, Script::SMOOTH)),
     };
-    let served = serve(&rt, alloc, &site(&pattern), &call);
+    let served = serve(&rt, alloc, &site(&pattern), &call)?;
     let key = Some(PinKey::Text(KeyText::copied_from(alloc, b"k1")?));
     let now = Moment::from_millis(7);
     let is_asked = match served.entries() {

@@ -106,18 +106,14 @@ pub(crate) fn port_script<'a>(
     }
 }
 
-/// A port that gives each request the site's server, answers so to requests for a connection, and refuses this event.
-pub(crate) fn serving_port<'a>(
-    openings: &'a [ScriptedOpening],
-    refusing: Option<(u64, Refused)>,
-) -> PortScript<'a> {
-    let asked = Asked::Served(ServerId::new(SERVER), ServedAs::Loose);
-    port_script(asked, openings, refusing)
+/// The answer of the site's backend to a request.
+pub(crate) fn its_server() -> Asked {
+    Asked::Served(ServerId::new(SERVER), ServedAs::Loose)
 }
 
 /// A port that gives each request the site's server, and opens each connection.
 pub(crate) fn open_port() -> PortScript<'static> {
-    serving_port(&[], None)
+    port_script(its_server(), &[], None)
 }
 
 /// One request: what its client sends, and what port and server answer.
@@ -135,7 +131,7 @@ pub(crate) struct Served<'a> {
     pub(crate) outcome: Outcome,
     pub(crate) client: ScriptedWire<'a>,
     pub(crate) dialer: ScriptedDialer<'a>,
-    pub(crate) port: ScriptedPort<'a>,
+    pub(crate) ports: Vec<ScriptedPort<'a>>,
 }
 
 /// Serves the request at the site, with a clock that stands at 7 ms, for a client at 10.0.0.7.
@@ -144,7 +140,7 @@ pub(crate) fn serve<'a, R>(
     alloc: Global,
     site: &Site<'_>,
     call: &'a Call<'a>,
-) -> Served<'a> {
+) -> Result<Served<'a>, AllocError> {
     let mut worker = Worker {
         clock: ScriptedClock::new(alloc, 7),
         gate: OpenGate,
@@ -154,7 +150,8 @@ pub(crate) fn serve<'a, R>(
         wire: ScriptedWire::new(alloc, call.input, call.client),
         source: Ipv4Addr::new(10, 0, 0, 7),
     };
-    let mut ports = [ScriptedPort::new(alloc, &call.port)];
+    let mut ports = Vec::new(alloc);
+    ports.push(ScriptedPort::new(alloc, &call.port))?;
     let mut room = [0; HEAD_ROOM];
     let outcome = serve_one(
         rt,
@@ -165,19 +162,21 @@ pub(crate) fn serve<'a, R>(
         &mut client,
         &mut room,
     );
-    let [port] = ports;
-    Served {
+    Ok(Served {
         outcome,
         client: client.wire,
         dialer: worker.dialer,
-        port,
-    }
+        ports,
+    })
 }
 
 impl Served<'_> {
     /// What was asked of the backend, and what it replied.
     pub(crate) fn entries(&self) -> &[Entry] {
-        self.port.entries()
+        match self.ports.as_slice() {
+            [port] => port.entries(),
+            _ => &[],
+        }
     }
 
     /// Whether as many connections were given back as were opened.
