@@ -125,7 +125,7 @@ fn a_bad_request_is_answered_400(rt: HostRuntime) -> Result<(), Fail> {
 #[test]
 fn a_request_without_a_connection_is_answered(rt: HostRuntime) -> Result<(), Fail> {
     let (good, other) = (
-        served(),
+        its_server(),
         Asked::Served(ServerId::new(SERVER + 1), ServedAs::Made),
     );
     let opens = [].as_slice();
