@@ -1,9 +1,11 @@
 -- What becomes of a request: relayed, answered by the relay, or dropped. RFC 9112, section 8: a server may answer an incomplete
 -- request before it closes the connection. Our own: behind the first byte of a response, and where the client's wire failed, the
 -- client gets nothing more.
-use Rattle.std.specs.Prelude.{◌≡◌, ◌⊎◌, ℕ, ◌==◌, Result, Ok, Err, if◌then◌else◌}
+use Rattle.std.specs.Prelude.{◌≡◌, ◌⊎◌, ℕ, ◌==◌, ⊤, List, Option, Result, Ok, Err, if◌then◌else◌}
+use Rattle.std.specs.Io.KnownBytes.{append_known}
 use Rattle.http_relay_wire.specs.declared.fault.WireFault.{WireFault}
 use Rattle.http_relay_wire.specs.declared.fault.WireFault.TheVariants.{Timeout, Broken}
+use Rattle.http_relay_forward.specs.Answers.{continue_text}
 use Rattle.http_relay_head.specs.declared.fault.HeadFault.{HeadFault}
 use Rattle.http_relay_head.specs.declared.fault.HeadFault.TheVariants as head
 use Rattle.http_relay_body.specs.declared.fault.BodyFault.{BodyFault}
@@ -98,3 +100,10 @@ Ends (Dropped why) old new outcome = (outcome ≡ Dropped why) × (new ≡ old)
 Ends (Answered why) old new outcome =
     ((outcome ≡ Answered why) × (new ≡ wrote old (cause_text why)))
     ⊎ ((fault : WireFault) × (outcome ≡ Dropped (AnswerNotTaken why fault)) × FailsToWrite (cause_text why) fault old new)
+
+-- where the relay answered by itself, the client got the answer's text, and nothing else but leave to go on before it
+abbrev pub GotAnswer : Outcome → Option (List ℕ) → Option (List ℕ) → Type 0
+GotAnswer Relayed before after = ⊤
+GotAnswer (Dropped why) before after = ⊤
+GotAnswer (Answered why) before after =
+    (after ≡ append_known before (cause_text why)) ⊎ (after ≡ append_known (append_known before continue_text) (cause_text why))

@@ -1,6 +1,6 @@
 ghost use Rattle.std.specs.Prelude.{◌≤◌, length};
 ghost use Rattle.http_relay_dial.specs.Dials.{talk_of};
-ghost use Rattle.http_relay_serve.specs.Outcomes.{Ends};
+ghost use Rattle.http_relay_serve.specs.Outcomes.{Ends, GotAnswer};
 ghost use Rattle.http_relay_serve.specs.Serves.{Relays, Serves, port_seen, clock_seen, dialer_seen, scene};
 
 use crate::answering::answer;
@@ -25,12 +25,13 @@ pub fn serve_one<R, T: Routing, P: Port<R>, K: Clock<R>, G: Gate<R>, D: Dialer<R
     room: &mut [u8; HEAD_ROOM],
 ) -> Outcome
     requires { T.backends routing.now ≤ length ports.old }
-    ensures { Serves (port_seen P.entries P.refusals) P.server_of (T.routes routing.now) client.old.source ports.old ports.new
+    ensures serves { Serves (port_seen P.entries P.refusals) P.server_of (T.routes routing.now) client.old.source ports.old ports.new
         (scene (clock_seen K.told K.pauses worker.old.clock) (dialer_seen D.dials D.talks D.failures worker.old.dialer)
         (talk_of C.written C.reading C.faults client.old.wire))
         (scene (clock_seen K.told K.pauses worker.new.clock) (dialer_seen D.dials D.talks D.failures worker.new.dialer)
         (talk_of C.written C.reading C.faults client.new.wire))
         result }
+    ensures answer { GotAnswer result (C.written client.old.wire) (C.written client.new.wire) }
 {
     let relayed = relay(rt, alloc, worker, routing, ports, client, room);
     end(&mut client.wire, Outcome::of(relayed))
