@@ -1,21 +1,17 @@
 -- What a client got where the relay answered by itself: nothing before the answer but leave to go on.
-use Rattle.std.proofs.Common.{◌≡◌, ◌⊎◌, ℕ, ◌-◌, ◌^◌, min, zero, suc, Bool, true, false, cond, eqb, List, [], ◌++◌, length, Option, Some, None, Result, Ok, Err, refl, sym, ap, ◌∙◌, subst, inl, inr, arith}
+use Rattle.std.proofs.Common.{◌≡◌, ◌⊎◌, ℕ, zero, suc, true, false, cond, eqb, List, ◌++◌, length, Option, Some, None, Result, Ok, Err, refl, sym, ap, ◌∙◌, subst, inl, inr, arith}
 use Rattle.std.specs.Io.KnownBytes.{append_known}
 use Rattle.std.proofs.lemmas.Bool.Decides.{nat_tests}
 use Rattle.std.proofs.lemmas.List.{append-nil, nil_from_length}
 use Rattle.http_relay_wire.specs.Wires.{Reading}
 use Rattle.http_relay_wire.specs.declared.fault.WireFault.{WireFault}
-use Rattle.http_relay_wire.specs.declared.fault.WireFault.TheVariants.{Timeout, Broken}
 use Rattle.http_relay_forward.specs.Answers.{continue_text}
 use Rattle.http_relay_body.specs.Copies.{Copied}
-use Rattle.http_relay_body.specs.declared.fault.BodyFault.{BodyFault}
-use Rattle.http_relay_body.specs.declared.fault.BodyFault.TheVariants as body
 use Rattle.http_relay_body.specs.declared.response.CopyFault.{CopyFault}
 use Rattle.http_relay_body.specs.declared.response.CopyFault.TheVariants as copy
 use Rattle.http_relay_dial.specs.Dials.{Dial, Talk}
 use Rattle.http_relay_exchange.specs.Exchanges.{wrote, invited, Exchanged}
 use Rattle.http_relay_exchange.specs.Requests.{OutgoingView}
-use Rattle.http_relay_exchange.specs.declared.fault.ExchangeFault.{ExchangeFault}
 use Rattle.http_relay_exchange.specs.declared.fault.ExchangeFault.TheVariants.{Send, Copy}
 use Rattle.http_relay_exchange.specs.declared.fault.SendFault.{SendFault}
 use Rattle.http_relay_exchange.specs.declared.fault.SendFault.TheVariants as send
@@ -154,9 +150,9 @@ relay_is_quiet seen server_of routes source ports used before after (Ok count) r
 answer_behind : (before between after : Talk) (text : List ℕ) → Quiet before between → after.written ≡ append_known between.written text
     → (after.written ≡ append_known before.written text) ⊎ (after.written ≡ append_known (append_known before.written continue_text) text)
 answer_behind before between after text quiet wrote_it = elim quiet [
-    inl same ↦ inl (wrote_it ∙ ap (λ w. append_known w text) same)
+  | inl same ↦ inl (wrote_it ∙ ap (λ w. append_known w text) same)
   | inr more ↦ inr (wrote_it ∙ ap (λ w. append_known w text) more)
-  ]
+]
 
 -- what the client got at last
 pub got_answer : (due outcome : Outcome) (before between after : Talk) → ((cause : Cause) → due ≡ Answered cause → Quiet before between)
@@ -164,7 +160,7 @@ pub got_answer : (due outcome : Outcome) (before between after : Talk) → ((cau
 got_answer Relayed outcome before between after quiet ends = subst (λ (o : Outcome). GotAnswer o before.written after.written) (sym ends.0) tt
 got_answer (Dropped why) outcome before between after quiet ends = subst (λ (o : Outcome). GotAnswer o before.written after.written) (sym ends.0) tt
 got_answer (Answered why) outcome before between after quiet ends = elim ends [
-    inl given ↦ subst (λ (o : Outcome). GotAnswer o before.written after.written) (sym given.0)
-        (answer_behind before between after (cause_text why) (quiet why refl) (ap (λ (t : Talk). t.written) given.1))
+  | inl given ↦ subst (λ (o : Outcome). GotAnswer o before.written after.written) (sym given.0)
+      (answer_behind before between after (cause_text why) (quiet why refl) (ap (λ (t : Talk). t.written) given.1))
   | inr failed ↦ subst (λ (o : Outcome). GotAnswer o before.written after.written) (sym failed.1) tt
-  ]
+]
