@@ -76,7 +76,7 @@ impl Declarations {
             Some(Kind::Server) => self.take_server(words),
             Some(Kind::Acl) => Ok(self.take_acl()?),
             Some(Kind::Rule) => Ok(self.take_rule()?),
-            Some(Kind::Stick) => Ok(self.take_stick()?),
+            Some(Kind::StickOn) => Ok(self.take_stick()?),
         }
     }
 
