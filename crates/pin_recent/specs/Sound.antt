@@ -1,9 +1,10 @@
 -- How pairs are stored: in a map, each at a place of its own, with a log of places beside it. No public clause cites this module.
-use Rattle.std.specs.Prelude.{◌≡◌, ◌≢◌, ℕ, ◌+◌, ◌*◌, ◌<◌, ◌≤◌, Bool, true, false, List, [], ◌∷◌, ◌++◌, ◌-◌, Some, if◌then◌else◌, length, map, nat_lt, slice_get, slice_set}
+use Rattle.std.specs.Prelude.{◌≡◌, ◌≢◌, ℕ, ◌+◌, ◌*◌, ◌<◌, ◌≤◌, Bool, true, false, List, [], ◌∷◌, ◌++◌, ◌-◌, Option, Some, if◌then◌else◌, length, map, nat_lt, slice_get, slice_set}
 use Rattle.std.specs.Option.{option_to_list, option_map_or}
 use Rattle.std.specs.VecDeque.{deque_capacity}
 use Rattle.pin_recent.specs.declared.stamped.Stamped.{Stamped}
 use Rattle.pin_recent.specs.declared.store.Store.{Store}
+use Rattle.pin_recent.specs.Recent.{answered}
 
 -- the items that stand at these places. A place past the end has none, so a hole gives nothing
 abbrev pub picked : {X : Type 0} → List X → List ℕ → List X
@@ -78,3 +79,9 @@ turned places (place ∷ log) = if nat_lt place places then log ++ place ∷ [] 
 -- the log once the entry at this place, if there is one, is known to stand there
 abbrev pub settled : ℕ → List ℕ → ℕ → List ℕ → List ℕ
 settled first numbers place log = option_map_or (λ number. slice_set log (number - first) place) (slice_get numbers place) log
+
+-- the pairs with the values that were given, as far as these go
+abbrev pub given_to : {K V : Type 0} → List (K × V) → List (Option V) → List (K × V)
+given_to [] given = []
+given_to (p ∷ pairs) [] = p ∷ pairs
+given_to (p ∷ pairs) (v ∷ given) = answered (p, v) ∷ given_to pairs given

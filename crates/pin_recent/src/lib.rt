@@ -7,9 +7,11 @@
 //! changes nothing. Start at `Recent`; the words are in `specs/Recent.antt`. No clause sees where a pair is stored.
 #![tactic(auto)]
 
+mod change;
 mod log;
 mod recent;
 mod stamped;
 mod store;
 
+pub use change::Change;
 pub use recent::Recent;

@@ -1,12 +1,14 @@
 //! Pairs at places of a map, with the log of their last uses.
-ghost use Rattle.std.specs.Prelude.{◌≡◌, ℕ, ◌+◌, ◌-◌, ◌*◌, ◌^◌, ◌<◌, ◌≤◌, Bool, [], ◌∷◌, ◌++◌, Some, OnOk, OnErr, IfErr, IfSome, IfNone, length, slice_get, option_to_list};
+ghost use Rattle.std.specs.Prelude.{◌≡◌, ℕ, ◌+◌, ◌-◌, ◌*◌, ◌^◌, ◌<◌, ◌≤◌, Bool, [], ◌∷◌, ◌++◌, Some, IfOk, OnOk, OnErr, IfErr, IfSome, IfNone, length, slice_get, option_to_list};
 ghost use Rattle.std.specs.Map.{lookup};
 ghost use Rattle.std.specs.Option.{option_copied, option_map};
 ghost use Rattle.std.specs.VecDeque.{deque_capacity};
 ghost use Rattle.indexmap.specs.IndexMap.{spare};
-ghost use Rattle.pin_recent.specs.Recent.{touched};
-ghost use Rattle.pin_recent.specs.Sound.{Ordered, Trim, Tied, OnlyAt, Nowhere, bare, numbers, stored, next_number, spent, settled, turned};
+ghost use Rattle.std.specs.List.{zip};
+ghost use Rattle.pin_recent.specs.Recent.{Asks, touched};
+ghost use Rattle.pin_recent.specs.Sound.{Ordered, Trim, Tied, OnlyAt, Nowhere, bare, numbers, stored, next_number, spent, settled, turned, given_to};
 
+use crate::change::Change;
 use crate::log::{HOLE, Log};
 use crate::stamped::Stamped;
 use indexmap::IndexMap;
@@ -259,5 +261,43 @@ impl<K: Eq + Hash + Drop, V: Drop, S: BuildHasher> Store<K, V, S> {
         self.map.insert(key, Stamped { value, number }).unwrap();
         self.log.push(place);
         Ok(())
+    }
+}
+
+impl<K: Eq + Hash, V: Drop, S: BuildHasher> Store<K, V, S> {
+    /// What is answered for each pair, in the map's order.
+    pub(crate) fn answers<C: Change<K, V>>(
+        &self,
+        alloc: Global,
+        change: &mut C,
+    ) -> Result<Vec<Option<V>>, AllocError>
+        ensures whole { IfOk result (λ given. length given.items ≡ length self.now.map.entries) }
+        ensures asks { IfOk result (λ given. Asks C.answers change.old (zip (bare self.now.map.entries) given.items) change.new) }
+    {
+        let mut given = Vec::with_capacity(alloc, self.map.len())?;
+        for place in 0..self.map.len() {
+            if let Some((key, stamped)) = self.map.get_index(place) {
+                let answer = change.answer(key, &stamped.value)?;
+                given.push(answer)?;
+            }
+        }
+        Ok(given)
+    }
+
+    /// Gives each pair the value that was answered for it, in the map's order.
+    pub(crate) fn give(&mut self, mut given: Vec<Option<V>>)
+        requires { length given.items ≡ length self.old.map.entries }
+        ensures pairs { bare self.new.map.entries ≡ given_to (bare self.old.map.entries) given.items }
+        ensures numbers { numbers self.new.map.entries ≡ numbers self.old.map.entries }
+        ensures places { self.new.log.places.items ≡ self.old.log.places.items }
+        ensures first { self.new.log.first ≡ self.old.log.first }
+        ensures capacity { deque_capacity self.new.log.places ≡ deque_capacity self.old.log.places }
+    {
+        while let Some(answer) = given.pop() {
+            if let Some(value) = answer {
+                let (_, stamped) = self.map.pair_mut(given.len());
+                stamped.value = value;
+            }
+        }
     }
 }
