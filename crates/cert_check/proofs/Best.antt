@@ -1,12 +1,13 @@
--- A plan of which all four facts hold is best: every assignment that agrees with it is, for every view of its sheet.
+-- A plan of which all four facts hold is best: every assignment that agrees with it is, at its sheet's capacities and for every
+-- view of its sheet.
 use Rattle.std.proofs.Common.{◌≡◌, ◌<◌, ℕ, true, false, List, length, refl, sym, ◌∙◌, inl, inr, arith}
 use Rattle.std.proofs.lemmas.Bool.{cases_lt, false≢true}
 use Rattle.std.proofs.lemmas.List.{length-map}
 use Rattle.std.proofs.lemmas.List.Elements.{All-weaker}
 use Rattle.std.proofs.lemmas.Option.{slice_get_past}
 use Rattle.lb_types_pins.specs.declared.kind.Row.{Row}
-use Rattle.pin_set.specs.Rows.{RowPermitsBelow}
-use Rattle.cert_check_law.specs.Sheets.{AreBestForViews}
+use Rattle.pin_set.specs.Rows.{RowPermitsBelow, AgreeingAreBest}
+use Rattle.cert_check_law.specs.Sheets.{sheet_room, AreBestForViews}
 use Rattle.cert_check_law.proofs.Room.{best_for_views}
 use Rattle.dual_cert_plan.specs.declared.server.Server.{Server}
 use Rattle.dual_cert_plan.specs.declared.server.PricedServer.{PricedServer}
@@ -31,9 +32,13 @@ row_below servers r kind s permitted =
     let as_many : length (servers_of servers) ≡ length servers = length-map servers (λ (p : PricedServer). p.server) in
     omega arith
 
-pub best_from : (sheet : SheetParts) (plan : PlanParts) → IsPlan plan → IsPermitted plan → IsWithinCapacity sheet plan → IsShown sheet plan
-    → AreBestForViews sheet plan.rows
-best_from sheet plan lawful permitted within shown = best_for_views sheet plan.rows (
+pub agreeing_from : (sheet : SheetParts) (plan : PlanParts) → IsPlan plan → IsPermitted plan → IsWithinCapacity sheet plan → IsShown sheet plan
+    → AgreeingAreBest (sheet_room sheet) plan.rows
+agreeing_from sheet plan lawful permitted within shown =
     agreeing_are_best (room sheet.servers) (price_at plan.servers) (length plan.servers) plan.rows
     (All-weaker (λ (r : Row). IsKind (servers_of plan.servers) r.kind) (RowPermitsBelow (length plan.servers)) (row_below plan.servers) plan.rows lawful.kinds)
-    (record { permitted = permitted; within = within; shown = shown }))
+    (record { permitted = permitted; within = within; shown = shown })
+
+pub best_from : (sheet : SheetParts) (plan : PlanParts) → IsPlan plan → IsPermitted plan → IsWithinCapacity sheet plan → IsShown sheet plan
+    → AreBestForViews sheet plan.rows
+best_from sheet plan lawful permitted within shown = best_for_views sheet plan.rows (agreeing_from sheet plan lawful permitted within shown)

@@ -1,3 +1,4 @@
+pub mod Accepted
 pub mod Best
 pub mod Bounds
 pub mod Decided

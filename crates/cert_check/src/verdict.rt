@@ -1,6 +1,6 @@
 ghost use Rattle.std.specs.Prelude.{◌≡◌, ◌↔◌, IsOk, IfOk, OnOk, IsErrOf};
-ghost use Rattle.pin_set.specs.Rows.{rows_score};
-ghost use Rattle.cert_check_law.specs.Sheets.{AreBestForViews};
+ghost use Rattle.pin_set.specs.Rows.{rows_score, AgreeingAreBest};
+ghost use Rattle.cert_check_law.specs.Sheets.{sheet_room, AreBestForViews};
 ghost use Rattle.cert_check.specs.Verdict.{verdict, IsMadeFor, IsPermitted, IsWithinCapacity, IsShown};
 
 use crate::CheckFault;
@@ -20,6 +20,10 @@ pub fn check(sheet: &Sheet, plan: &Plan) -> Result<Score, CheckFault>
     // A score is given only where, for every view that the sheet stands for, each assignment that agrees with the plan
     // is best and has this score.
     ensures best { OnOk result (AreBestForViews sheet.now plan.now.rows) }
+
+    // So is, at the sheet's capacities, each assignment of the sheet's pins that agrees with the plan, also where the sheet
+    // stands for no view.
+    ensures sheet { OnOk result (AgreeingAreBest (sheet_room sheet.now) plan.now.rows) }
 
     // The score, and each fault, with what it says of the plan.
     ensures score { IfOk result (λ score. score ≡ rows_score plan.now.rows) }

@@ -1,3 +1,4 @@
 pub mod Checking
 pub mod Planning
+pub mod Statuses
 pub mod Verify

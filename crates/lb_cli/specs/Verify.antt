@@ -1,7 +1,9 @@
 -- What `verify` finds of a text, and the line that it prints.
-use Rattle.std.specs.Prelude.{ℕ, Bool, true, false, ◌==◌, List, [], ◌∷◌, ◌++◌, codes, Result, Ok, Err, if◌then◌else◌}
+use Rattle.std.specs.Prelude.{◌≡◌, ℕ, ⊤, Bool, true, false, ◌==◌, List, [], ◌∷◌, ◌++◌, codes, Result, Ok, Err, if◌then◌else◌}
 use Rattle.std.specs.Fmt.{decimal}
 use Rattle.pin_set.specs.declared.totals.Score.{Score}
+use Rattle.pin_set.specs.Rows.{rows_score, AgreeingAreBest}
+use Rattle.cert_check_law.specs.Sheets.{sheet_room}
 use Rattle.dual_cert_plan.specs.Plans.{PlanParts, own_sheet}
 use Rattle.dual_cert.specs.TextFault.{TextFault}
 use Rattle.dual_cert.specs.Faults.{fault_text}
@@ -24,6 +26,19 @@ finding_of_reading (Err fault) = NoPlan fault
 -- what is found of a text: the plan that it spells, and the checker's verdict on it
 abbrev pub finding_of : List ℕ → Finding
 finding_of text = finding_of_reading (plan_of_text text)
+
+-- the text spells a plan; each assignment that agrees with the plan is best at the plan's own capacities, and has this score
+pub record IsBestPlan (text : List ℕ) (score : Score) : Type 0 where
+  pub plan : PlanParts
+  pub read : plan_of_text text ≡ Ok plan
+  pub agreeing : AgreeingAreBest (sheet_room (own_sheet plan)) plan.rows
+  pub score_is : rows_score plan.rows ≡ score
+
+-- what a finding says of plans: `Best` says that the text's plan is best. The others say nothing
+abbrev pub MeansBest : List ℕ → Finding → Type 0
+MeansBest text (Best score) = IsBestPlan text score
+MeansBest text (NoPlan fault) = ⊤
+MeansBest text (Refused fault) = ⊤
 
 abbrev pub is_best : Finding → Bool
 is_best (Best score) = true

@@ -21,11 +21,12 @@ pub enum Finding {
 impl Finding {
     ghost use Rattle.std.specs.Prelude.{◌≡◌, IfOk};
     ghost use Rattle.std.specs.String.{string_bytes};
-    ghost use Rattle.lb_cli.specs.Verify.{finding_of, is_best, line_of};
+    ghost use Rattle.lb_cli.specs.Verify.{finding_of, MeansBest, is_best, line_of};
 
     /// What is found of the text. Takes the time of reading it, and memory of a few times its size.
     pub fn of(alloc: Global, text: &[u8]) -> Result<Finding, AllocError>
-        ensures { IfOk result (λ finding. finding ≡ finding_of text.now) }
+        ensures exact { IfOk result (λ finding. finding ≡ finding_of text.now) }
+        ensures best { IfOk result (MeansBest text.now) }
     {
         let plan = match read_plan(alloc, text) {
             Ok(plan) => plan,

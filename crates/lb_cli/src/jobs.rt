@@ -1,3 +1,6 @@
+ghost use Rattle.std.specs.Prelude.{◌≡◌};
+ghost use Rattle.lb_cli.specs.Statuses.{status_of};
+
 use crate::{JobError, check, plan, verify};
 use lb_cli_words::Job;
 use std::alloc::Global;
@@ -5,8 +8,8 @@ use std::io::Write;
 use std::rt::Files;
 use std::{fs, io};
 
-/// Does the job, with its answer on `out` and what hindered it on `err`, and tells the program's exit status: 0 where
-/// all is good, 1 where a file was refused or the job was not done.
+/// Does the job, with its answer on `out` and what hindered it on `err`, and tells the program's exit status, `status_of`
+/// what came of the job.
 pub fn perform<R: Files, O: Write, E: Write>(
     alloc: Global,
     rt: &R,
@@ -19,14 +22,20 @@ pub fn perform<R: Files, O: Write, E: Write>(
         Job::Plan { file } => (file, plan_file(alloc, rt, file, out)),
         Job::Check { file } => (file, check_file(alloc, rt, file, out)),
     };
+    if let Err(error) = done {
+        // A message that can't be written leaves only the status.
+        let _ = tell(err, error, file);
+    }
+    status_of(done)
+}
+
+/// The program's exit status after a job: 0 where its answer is yes, and 1 where that is no or the job was not done.
+pub fn status_of(done: Result<bool, JobError>) -> u8
+    ensures { result ≡ status_of done }
+{
     match done {
         Ok(true) => 0,
-        Ok(false) => 1,
-        Err(error) => {
-            // A message that can't be written leaves only the status.
-            let _ = tell(err, error, file);
-            1
-        }
+        Ok(false) | Err(_) => 1,
     }
 }
 

@@ -2,8 +2,9 @@
 //! stated function of these bytes.
 //!
 //! Promised: `verify` writes the line of `specs/Verify.antt` for its text, `plan` an answer of `specs/Planning.antt` for its
-//! sheet, and `check` the report of `specs/Checking.antt` for its configuration, and nothing else. Start there, and at
-//! `perform`, which finds the job's file and tells the program's exit status.
+//! sheet, and `check` the report of `specs/Checking.antt` for its configuration, and nothing else. A plan that `verify` calls
+//! best, and one that `plan` writes, is best. Start there, and at `perform`, which finds the job's file and tells the program's
+//! exit status, that of `status_of`.
 #![tactic(auto)]
 
 mod check_job;
@@ -17,6 +18,6 @@ mod verify_job;
 pub use check_job::check;
 pub use finding::Finding;
 pub use job_error::JobError;
-pub use jobs::perform;
+pub use jobs::{perform, status_of};
 pub use plan_job::plan;
 pub use verify_job::verify;

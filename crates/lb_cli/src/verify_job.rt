@@ -1,6 +1,6 @@
 ghost use Rattle.std.specs.Prelude.{◌≡◌, OnOk, IfOk, IfSome};
 ghost use Rattle.std.specs.Io.KnownBytes.{Appends};
-ghost use Rattle.lb_cli.specs.Verify.{finding_of, line_of};
+ghost use Rattle.lb_cli.specs.Verify.{finding_of, MeansBest, line_of};
 
 use crate::input::whole;
 use crate::{Finding, JobError};
@@ -18,6 +18,7 @@ pub fn verify<R: Read, W: Write>(
 ) -> Result<Finding, JobError>
     ensures finding { IfOk result (λ finding. IfSome (R.remaining file.old) (λ text.
         finding ≡ finding_of text)) }
+    ensures best { IfOk result (λ finding. IfSome (R.remaining file.old) (λ text. MeansBest text finding)) }
     ensures written { OnOk result (IfSome (R.remaining file.old) (λ text.
         Appends (W.contents out.old) (W.contents out.new) (line_of (finding_of text)))) }
 {

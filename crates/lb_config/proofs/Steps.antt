@@ -8,7 +8,7 @@ use Rattle.lb_config.specs.BasisView.{BasisView}
 use Rattle.lb_config.specs.ProxiesSoFarView.{ProxiesSoFarView}
 use Rattle.lb_config.specs.ProxiesSoFar.{with_section, with_sections}
 
-cons_first : {Y : Type 0} (o : Option Y) (ys : List Y) → cons_option o ys ≡ option_to_list o ++ ys
+pub cons_first : {Y : Type 0} (o : Option Y) (ys : List Y) → cons_option o ys ≡ option_to_list o ++ ys
 cons_first None ys = refl
 cons_first (Some y) ys = refl
 

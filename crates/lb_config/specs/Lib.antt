@@ -7,3 +7,4 @@ pub mod Kept
 pub mod Limits
 pub mod ProxiesSoFar
 pub mod ProxiesSoFarView
+pub mod ValidConfigs

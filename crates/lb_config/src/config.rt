@@ -1,5 +1,10 @@
-ghost use Rattle.std.specs.Prelude.{◌≡◌};
+ghost use Rattle.std.specs.Prelude.{◌≡◌, length, All};
 ghost use Rattle.std.specs.Option.{option_copied};
+ghost use Rattle.lb_config_arguments.specs.Ranges.{IsFromTo};
+ghost use Rattle.lb_config_limits.specs.declared.declarations.TheConstants.{MAX_BACKENDS};
+ghost use Rattle.lb_config_lines.specs.declared.common_line.TheConstants.{MAX_JOURNAL, MAX_RELAYS, MAX_TRIES};
+ghost use Rattle.lb_config_valid.specs.Names.{AreNames};
+ghost use Rattle.lb_config.specs.ValidConfigs.{LeadsWithin, WantsOwn, names_of};
 
 use crate::{BackendConfig, Frontend};
 use lb_config_lines::SocketAddress;
@@ -19,6 +24,7 @@ pub struct Config {
 
 impl Model for Config {
     ghost use Rattle.lb_config.specs.ConfigViews.{ConfigView};
+    ghost use Rattle.lb_config.specs.ValidConfigs.{IsConfig};
 
     ghost Value = { ConfigView };
 
@@ -30,19 +36,30 @@ impl Model for Config {
       backends = config.backends.items;
       warnings = config.warnings.items;
     } };
+
+    ghost invariant = { λ config. IsConfig (record {
+      relays = config.relays;
+      tries = config.tries;
+      socket = config.socket;
+      frontends = config.frontends.items;
+      backends = config.backends.items;
+      warnings = config.warnings.items;
+    }) };
 }
 
 impl Config {
     /// How many relay workers there are, 1 to 64.
     pub fn relays(&self) -> u8
-        ensures { result ≡ self.now.relays }
+        ensures exact { result ≡ self.now.relays }
+        ensures in_range { IsFromTo 1 MAX_RELAYS result }
     {
         self.relays
     }
 
     /// How often an evacuation is tried, 1 to 1000.
     pub fn tries(&self) -> u16
-        ensures { result ≡ self.now.tries }
+        ensures exact { result ≡ self.now.tries }
+        ensures in_range { IsFromTo 1 MAX_TRIES result }
     {
         self.tries
     }
@@ -54,16 +71,21 @@ impl Config {
         self.socket.as_ref()
     }
 
-    /// The frontends, sections `listen` among them, in their order.
+    /// The frontends, sections `listen` among them, in their order. Each request goes to a backend that exists, if to any.
     pub fn frontends(&self) -> &[Frontend]
-        ensures { result.now ≡ self.now.frontends }
+        ensures exact { result.now ≡ self.now.frontends }
+        ensures leads { All (LeadsWithin (length self.now.backends)) self.now.frontends }
     {
         &self.frontends
     }
 
-    /// The backends, sections `listen` among them, in their order.
+    /// The backends, sections `listen` among them, in their order: at most 64, with distinct names. The servers that their rules
+    /// name exist.
     pub fn backends(&self) -> &[BackendConfig]
-        ensures { result.now ≡ self.now.backends }
+        ensures exact { result.now ≡ self.now.backends }
+        ensures names { AreNames MAX_BACKENDS (names_of self.now.backends) }
+        ensures journals { All (λ backend. IsFromTo 1 MAX_JOURNAL backend.journal) self.now.backends }
+        ensures wants { All WantsOwn self.now.backends }
     {
         &self.backends
     }

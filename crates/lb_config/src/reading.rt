@@ -1,6 +1,7 @@
 ghost use Rattle.std.specs.Prelude.{◌≡◌, IfOk};
 ghost use Rattle.std.specs.Option.{option_copied};
 ghost use Rattle.lb_config_sections.specs.Causes.{Gives};
+ghost use Rattle.lb_config_valid.specs.Valid.{AreValid};
 ghost use Rattle.lb_config.specs.Configs.{config_in, config_of, globals_of, with_global_section};
 
 use crate::Config;
@@ -9,6 +10,7 @@ use crate::proxies_so_far::read_proxies;
 use crate::proxy::Basis;
 use lb_config_lines::{Section, SocketAddress};
 use lb_config_sections::{ConfigFault, ConfigSection, Sections, read_checked};
+use lb_config_valid::checked_sections_are_valid;
 use lb_config_values::GlobalValues;
 use lb_config_words::Word;
 use std::alloc::{AllocError, Global};
@@ -22,11 +24,13 @@ pub fn read_config(alloc: Global, text: &[u8]) -> Result<Config, ConfigFault>
     ensures { Gives (λ config. config) result (config_in text.now) }
 {
     let sections = read_checked(alloc, text)?;
+    checked_sections_are_valid();
     Ok(config_of(alloc, sections)?)
 }
 
 #[tactic(auto, unfolding(crate::specs::Configs::config_of))]
 fn config_of(alloc: Global, sections: Sections) -> Result<Config, AllocError>
+    requires { AreValid sections.sections }
     ensures { IfOk result (λ config. config ≡ config_of sections) }
 {
     let (sections, warnings) = sections.into_lists();

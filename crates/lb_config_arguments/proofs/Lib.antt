@@ -1,1 +1,3 @@
+pub mod KeptSteps
+pub mod ReadRanges
 pub mod WordSteps

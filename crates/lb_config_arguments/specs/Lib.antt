@@ -1,5 +1,6 @@
 pub mod Addresses
 pub mod Faults
 pub mod Numbers
+pub mod Ranges
 pub mod Rest
 pub mod Reading

@@ -12,5 +12,5 @@ mod words;
 
 pub use address::{Endpoint, read_ipv4, read_listen_endpoint, read_server_endpoint};
 pub use fault::{Fault, LineError};
-pub use numbers::{read_number, read_size, read_time};
+pub use numbers::{MAX_MILLIS, read_number, read_size, read_time};
 pub use words::{Words, is, read_name};

@@ -7,7 +7,7 @@ use lb_types::MAX_PINS;
 use lb_types_text::Digits;
 
 /// The longest time, in milliseconds: some 24.8 days, as in HAProxy.
-const MAX_MILLIS: u64 = 2_147_483_647;
+pub const MAX_MILLIS: u64 = 2_147_483_647;
 
 /// The number that the word is, in the range from `least` to `most`. Leading zeros are allowed.
 #[tactic(auto, unfolding(crate::specs::Numbers::number_in))]

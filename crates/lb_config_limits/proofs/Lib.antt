@@ -1,1 +1,3 @@
+pub mod DeclaredNames
+pub mod FirstWords
 pub mod Names

@@ -1,5 +1,5 @@
--- What a line declares, by its first word: HAProxy Configuration Manual 2.8, sections 2.1 and 4.1. `pin-cost` is this project's own.
-use Rattle.std.specs.Prelude.{ℕ, List, [], ◌∷◌, Option, Some, None, codes, if◌then◌else◌}
+-- What a line declares, by its first word, and `stick on` by its first two: HAProxy Configuration Manual 2.8, sections 2.1 and 4.1. `pin-cost` is this project's own.
+use Rattle.std.specs.Prelude.{ℕ, ◌&&◌, List, [], ◌∷◌, Option, Some, None, codes, if◌then◌else◌}
 use Rattle.std.specs.Option.{option_or}
 use Rattle.std.specs.Str.{bytes_eq}
 use Rattle.std.specs.Result.{result_ok}
@@ -20,8 +20,7 @@ section_kind word =
 unfoldable pub keyword_kind : List ℕ → Option Kind
 keyword_kind word =
     if bytes_eq word (codes "server") then Some Of.Server
-    else (if bytes_eq word (codes "acl") then Some Of.Acl
-    else (if bytes_eq word (codes "stick") then Some Of.Stick else None))
+    else (if bytes_eq word (codes "acl") then Some Of.Acl else None)
 
 -- words of rules, which are counted together
 unfoldable pub rule_kind : List ℕ → Option Kind
@@ -30,10 +29,15 @@ rule_kind word =
     else (if bytes_eq word (codes "use-server") then Some Of.Rule
     else (if bytes_eq word (codes "pin-cost") then Some Of.Rule else None))
 
+-- `stick on`; any other line `stick` has a fault of its own, wherever it stands
+unfoldable pub stick_kind : List ℕ → List (List ℕ) → Option Kind
+stick_kind word [] = None
+stick_kind word (second ∷ rest) = if bytes_eq word (codes "stick") && bytes_eq second (codes "on") then Some Of.StickOn else None
+
 -- what the line declares, if anything that is counted
 unfoldable pub kind_of : List (List ℕ) → Option Kind
 kind_of [] = None
-kind_of (word ∷ rest) = option_or (option_or (section_kind word) (keyword_kind word)) (rule_kind word)
+kind_of (word ∷ rest) = option_or (option_or (option_or (section_kind word) (keyword_kind word)) (rule_kind word)) (stick_kind word rest)
 
 -- the name behind the line's first word, if one stands there
 unfoldable pub name_in : List (List ℕ) → Option (List ℕ)

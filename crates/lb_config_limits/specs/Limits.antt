@@ -93,7 +93,7 @@ take_acl d = one_more d.acls >>= λ acls. Ok (record d { acls = acls })
 unfoldable pub take_rule : DeclaredView → Result DeclaredView LimitFault
 take_rule d = one_more d.rules >>= λ rules. Ok (record d { rules = rules })
 
--- a line `stick`
+-- a line `stick on`
 unfoldable pub take_stick : DeclaredView → Result DeclaredView LimitFault
 take_stick d = if d.has_stick then Err SecondStick else Ok (record d { has_stick = true })
 
@@ -107,7 +107,7 @@ take_kind (Some Of.Listen) d words = take_listen d words
 take_kind (Some Of.Server) d words = take_server d words
 take_kind (Some Of.Acl) d words = take_acl d
 take_kind (Some Of.Rule) d words = take_rule d
-take_kind (Some Of.Stick) d words = take_stick d
+take_kind (Some Of.StickOn) d words = take_stick d
 
 unfoldable pub take_line : DeclaredView → List (List ℕ) → Result DeclaredView LimitFault
 take_line d words = take_kind (kind_of words) d words

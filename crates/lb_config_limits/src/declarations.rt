@@ -10,10 +10,10 @@ use std::alloc::Global;
 use std::marker::Model;
 
 /// How many backends there may be.
-const MAX_BACKENDS: usize = 64;
+pub const MAX_BACKENDS: usize = 64;
 
 /// How many `acl` lines, and how many rules, a section may have.
-const MAX_LINES: u32 = 256;
+pub const MAX_LINES: u32 = 256;
 
 /// What the lines so far have declared, as far as later lines are judged by it.
 #[derive(Drop)]
@@ -76,7 +76,7 @@ impl Declarations {
             Some(Kind::Server) => self.take_server(words),
             Some(Kind::Acl) => Ok(self.take_acl()?),
             Some(Kind::Rule) => Ok(self.take_rule()?),
-            Some(Kind::Stick) => Ok(self.take_stick()?),
+            Some(Kind::StickOn) => Ok(self.take_stick()?),
         }
     }
 

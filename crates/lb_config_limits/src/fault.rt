@@ -10,7 +10,7 @@ pub enum LimitFault {
     /// 28: a 129th server of a section, a 65th backend, a 257th `acl` line, or a 257th rule of a section.
     #[error("there are too many")]
     TooMany,
-    /// 29: a second line `stick` in a section.
+    /// 29: a second `stick on` in a section.
     #[error("a section has at most one `stick on`")]
     SecondStick,
 }

@@ -1,11 +1,11 @@
 ghost use Rattle.std.specs.Prelude.{◌≡◌};
 ghost use Rattle.std.specs.Str.{bytes_eq};
-ghost use Rattle.lb_config_limits.specs.Kinds.{kind_of, keyword_kind, section_kind, rule_kind, name_in};
+ghost use Rattle.lb_config_limits.specs.Kinds.{kind_of, keyword_kind, section_kind, rule_kind, stick_kind, name_in};
 
 use lb_config_words::Word;
 use lb_types::Name;
 
-/// What a line declares, by its first word.
+/// What a line declares, by its first word, and `stick on` by its first two.
 #[derive(Clone, Copy, Debug, PartialEq, Eq)]
 pub(crate) enum Kind {
     /// A section `global` or `defaults`.
@@ -23,7 +23,7 @@ pub(crate) enum Kind {
     /// A rule: `use_backend`, `use-server` or `pin-cost`.
     Rule,
     /// `stick on`.
-    Stick,
+    StickOn,
 }
 
 impl Kind {
@@ -32,11 +32,12 @@ impl Kind {
     pub(crate) fn of(words: &[Word]) -> Option<Kind>
         ensures { result ≡ kind_of words.now }
     {
-        let (first, _) = words.split_first()?;
+        let (first, rest) = words.split_first()?;
         let word = first.as_bytes();
         section_kind(word)
             .or(keyword_kind(word))
             .or(rule_kind(word))
+            .or(stick_kind(word, rest))
     }
 }
 
@@ -67,8 +68,6 @@ fn keyword_kind(word: &[u8]) -> Option<Kind>
         Some(Kind::Server)
     } else if is(word, b"acl") {
         Some(Kind::Acl)
-    } else if is(word, b"stick") {
-        Some(Kind::Stick)
     } else {
         None
     }
@@ -84,6 +83,21 @@ fn rule_kind(word: &[u8]) -> Option<Kind>
         Some(Kind::Rule)
     } else if is(word, b"pin-cost") {
         Some(Kind::Rule)
+    } else {
+        None
+    }
+}
+
+/// `stick on`, by the line's first word and the words behind it.
+///
+/// A line `stick` of another kind has a fault of its own, which `lb_config_lines` tells.
+#[tactic(auto, unfolding(crate::specs::Kinds::stick_kind))]
+fn stick_kind(word: &[u8], rest: &[Word]) -> Option<Kind>
+    ensures { result ≡ stick_kind word.now rest.now }
+{
+    let (second, _) = rest.split_first()?;
+    if is(word, b"stick") && is(second.as_bytes(), b"on") {
+        Some(Kind::StickOn)
     } else {
         None
     }

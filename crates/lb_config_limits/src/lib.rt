@@ -12,5 +12,5 @@ mod kind;
 mod name_set;
 mod ordered_name;
 
-pub use declarations::Declarations;
+pub use declarations::{Declarations, MAX_BACKENDS, MAX_LINES};
 pub use fault::{LimitError, LimitFault};

@@ -9,13 +9,13 @@ use lb_config_keywords::{
 };
 
 /// How many connections of each `bind` may be served at a time (`tune.relays`).
-const MAX_RELAYS: u64 = 64;
+pub const MAX_RELAYS: u64 = 64;
 
 /// How many plans may be tried while the table changes (`tune.tries`).
-const MAX_TRIES: u64 = 1000;
+pub const MAX_TRIES: u64 = 1000;
 
 /// How many events a journal may keep (`tune.journal`).
-const MAX_JOURNAL: u64 = 1_000_000;
+pub const MAX_JOURNAL: u64 = 1_000_000;
 
 /// A line whose first word is none of a proxy's own.
 #[tactic(auto, unfolding(crate::specs::Lines::common_line_at))]

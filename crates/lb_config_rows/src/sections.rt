@@ -41,7 +41,7 @@ fn is_fault(fault: &Option<ConfigFault>, wanted: Option<(u32, u16, &[u8])>) -> b
 }
 
 /// Texts, and the line, the number and the word of their first fault.
-const FAULTS: [(Reader, &[u8], Option<(u32, u16, &[u8])>); 38] = [
+const FAULTS: [(Reader, &[u8], Option<(u32, u16, &[u8])>); 43] = [
     (
         Reader::Text,
         b"backend web\n  balance uri",
@@ -71,8 +71,34 @@ const FAULTS: [(Reader, &[u8], Option<(u32, u16, &[u8])>); 38] = [
     ),
     (
         Reader::Text,
-        b"backend a\nstick on src\nstick 'x",
+        b"backend a\nstick on src\nstick on 'x",
         Some((3, 29, b"stick")),
+    ),
+    // Behind a `stick on` a line `stick` is a second one only where its second word is `on`.
+    (
+        Reader::Text,
+        b"backend a\nstick on src\nstick on src",
+        Some((3, 29, b"stick")),
+    ),
+    (
+        Reader::Text,
+        b"backend a\nstick on src\nstick match src",
+        Some((3, 29, b"match")),
+    ),
+    (
+        Reader::Text,
+        b"backend a\nstick on src\nstick x",
+        Some((3, 22, b"")),
+    ),
+    (
+        Reader::Text,
+        b"backend a\nstick on src\nstick",
+        Some((3, 23, b"")),
+    ),
+    (
+        Reader::Text,
+        b"backend a\nstick on src\nstick 'x",
+        Some((3, 23, b"")),
     ),
     (Reader::Text, b"backend a b", Some((1, 22, b""))),
     (

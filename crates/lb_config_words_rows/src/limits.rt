@@ -54,9 +54,10 @@ const NAMES: [(&[u8], Option<(u32, LimitFault)>); 18] = [
         b"backend a\nstick on src\nstick on src",
         Some((3, LimitFault::SecondStick)),
     ),
+    // Another line `stick` is refused elsewhere.
     (
-        b"backend a\nstick on src\nstick",
-        Some((3, LimitFault::SecondStick)),
+        b"backend a\nstick on src\nstick\nstick x\nstick match src",
+        None,
     ),
     (b"backend a\nstick-table type ip size 1\nstick on src", None),
 ];

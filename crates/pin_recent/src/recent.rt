@@ -1,4 +1,4 @@
-ghost use Rattle.std.specs.Prelude.{◌≡◌, ◌+◌, ◌^◌, ◌<◌, None, [], ◌∷◌, ◌++◌, if◌then◌else◌, is_some, IfErr, OnErr, OnOk, length, option_to_list, slice_get};
+ghost use Rattle.std.specs.Prelude.{◌≡◌, ◌+◌, ◌^◌, ◌<◌, ◌≤◌, None, [], ◌∷◌, ◌++◌, if◌then◌else◌, is_some, IfErr, OnErr, OnOk, length, drop, slice_get};
 ghost use Rattle.std.specs.Map.{lookup};
 ghost use Rattle.std.specs.Option.{option_copied, option_map};
 ghost use Rattle.pin_recent.specs.Recent.{in_order, touched};
@@ -19,7 +19,7 @@ pub struct Recent<K: Eq + Hash, V, S: BuildHasher> {
 }
 
 impl<K: Eq + Hash, V, S: BuildHasher> Model for Recent<K, V, S> {
-    ghost use Rattle.std.specs.Prelude.{◌+◌, ◌*◌, ◌≤◌, length};
+    ghost use Rattle.std.specs.Prelude.{◌*◌, ◌≤◌};
     ghost use Rattle.pin_recent.specs.Recent.{InOrder, in_order};
     ghost use Rattle.pin_recent.specs.Sound.{Ordered, Trim, stored, spent};
 
@@ -30,7 +30,7 @@ impl<K: Eq + Hash, V, S: BuildHasher> Model for Recent<K, V, S> {
     ghost invariant = { λ r. record {
       ordered : Ordered r.store;
       trim : Trim r.store;
-      counted : spent r.store ≤ 2 * r.uses + length r.store.map.entries;
+      counted : spent r.store ≤ 2 * r.uses;
     } };
 }
 
@@ -75,10 +75,14 @@ impl<K: Eq + Hash, V, S: BuildHasher> Recent<K, V, S> {
 
     /// Takes out the pair that wasn't used for longest, without memory.
     pub fn pop_oldest(&mut self) -> Option<(K, V)>
-        requires { self.old.uses < 2 ^ 63 }
-        ensures oldest { self.old.pairs ≡ option_to_list result ++ self.new.pairs }
+        requires { self.old.uses ≤ 2 ^ 63 }
+        ensures oldest { result ≡ slice_get self.old.pairs 0 }
+        ensures left { self.new.pairs ≡ drop 1 self.old.pairs }
         ensures uses { self.new.uses ≡ self.old.uses }
     {
+        if self.store.len() == 0 {
+            return None;
+        }
         self.store.pop()
     }
 }

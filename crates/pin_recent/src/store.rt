@@ -178,7 +178,8 @@ impl<K: Eq + Hash, V, S: BuildHasher> Store<K, V, S> {
         ensures ordered { Ordered self.new }
         ensures trim { Trim self.new }
         ensures oldest { stored self.old ≡ option_to_list result ++ stored self.new }
-        ensures spent { spent self.new + length self.old.map.entries ≤ spent self.old + length self.new.map.entries }
+        ensures none { IfNone result (stored self.old ≡ []) }
+        ensures spent { spent self.new ≤ spent self.old }
     {
         if self.log.len() == 0 {
             return None;

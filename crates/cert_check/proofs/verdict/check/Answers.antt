@@ -1,7 +1,7 @@
 use Rattle.std.proofs.Common.{sym, ◌∙◌}
 use Rattle.std.proofs.lemmas.Bool.{false≢true}
 use Rattle.cert_check.specs.Verdict.{IsMadeFor, IsPermitted, IsWithinCapacity, IsShown}
-use Rattle.cert_check.proofs.Best.{best_from}
+use Rattle.cert_check.proofs.Best.{agreeing_from, best_from}
 use Rattle.cert_check.proofs.Means.{rows_differ-means, not_permitted-means, over_capacity-means, not_shown-means, verdict-accepts}
 use Rattle.cert_check.proofs.verdict.check.Goals as goal
 
@@ -62,3 +62,13 @@ returns-clause-best c =
     let shown : IsShown c.args.sheet.now c.args.plan.now =
     rw (c.servers-servers.ensures.exact, c.rows-rows.ensures.exact, made.servers) at (c.is_shown.ensures.0 c.if-not-is_shown.false) in
     best_from c.args.sheet.now c.args.plan.now c.rows-rows.ensures.lawful permitted within shown
+
+pub returns-clause-sheet : goal.returns-clause-sheet
+returns-clause-sheet c =
+    let made : IsMadeFor c.args.sheet.now c.args.plan.now = c.is_made_for.ensures.0 c.if-not-is_made_for.false in
+    let permitted : IsPermitted c.args.plan.now = rw c.rows-rows.ensures.exact at (c.is_permitted.ensures.0 c.if-not-is_permitted.false) in
+    let within : IsWithinCapacity c.args.sheet.now c.args.plan.now =
+    rw (c.servers-servers.ensures.exact, c.rows-rows.ensures.exact, made.servers) at (c.is_within_capacity.ensures.0 c.if-not-is_within_capacity.false) in
+    let shown : IsShown c.args.sheet.now c.args.plan.now =
+    rw (c.servers-servers.ensures.exact, c.rows-rows.ensures.exact, made.servers) at (c.is_shown.ensures.0 c.if-not-is_shown.false) in
+    agreeing_from c.args.sheet.now c.args.plan.now c.rows-rows.ensures.lawful permitted within shown

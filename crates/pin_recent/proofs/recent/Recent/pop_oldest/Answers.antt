@@ -8,4 +8,4 @@ pop-requires-clause-fits g c =
     let s = c.self.inside.store in
     let inv = c.self.invariant in
     let all : length (stored s) ≡ length s.map.entries = inv.ordered.all in
-    omega (arith, all, inv.counted, c.requires, ap (λ r. r.uses) c.self.view_is, length-picked_le (bare s.map.entries) s.log.places.items)
+    omega (arith, all, inv.counted, c.requires, c.len.ensures, ap (λ r. r.uses) c.self.view_is, length-picked_le (bare s.map.entries) s.log.places.items)

@@ -1,0 +1,3 @@
+pub mod OwnAnswers
+pub mod Places
+pub mod Stages

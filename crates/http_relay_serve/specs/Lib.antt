@@ -1,0 +1,4 @@
+pub mod Causes
+pub mod Outcomes
+pub mod Routes
+pub mod Serves

@@ -1,0 +1,101 @@
+-- The configuration of a valid text.
+use Rattle.std.proofs.Common.{◌≡◌, List, [], ◌∷◌, length, Option, Some, None, IfSome, All, unwrap_or, sym, ap, subst, ◌∙◌, arith}
+use Rattle.std.specs.List.{cons_option, last_or}
+use Rattle.std.proofs.lemmas.List.{length-map}
+use Rattle.std.proofs.lemmas.List.Elements.{All-head, All-tail}
+use Rattle.lb_config_arguments.specs.Ranges.{IsFromTo}
+use Rattle.lb_config_keywords.specs.declared.section.Section.{Section}
+use Rattle.lb_config_keywords.specs.declared.section.Section.TheVariants as Kind
+use Rattle.lb_config_limits.specs.declared.declarations.TheConstants.{MAX_BACKENDS}
+use Rattle.lb_config_lines.specs.declared.common_line.TheConstants.{MAX_JOURNAL, MAX_RELAYS, MAX_TRIES}
+use Rattle.lb_config_lines.specs.declared.setting.Setting.{Setting}
+use Rattle.lb_config_lines.specs.declared.setting.Setting.TheVariants as Set
+use Rattle.lb_config_sections.specs.Names.{backend_name, gathered}
+use Rattle.lb_config_sections.specs.SectionView.{SectionView}
+use Rattle.lb_config_sections.specs.SectionsView.{SectionsView}
+use Rattle.lb_config_sections.specs.declared.config_section.NumberedSetting.{NumberedSetting}
+use Rattle.lb_config_values.specs.DefaultsLines.{no_defaults}
+use Rattle.lb_config_values.specs.GlobalsView.{GlobalsView}
+use Rattle.lb_config_values.specs.Values.{journal_in, last_said, no_globals, relays_in, said, tries_in}
+use Rattle.lb_config_valid.specs.Names.{AreNames}
+use Rattle.lb_config_valid.specs.Numbers.{HasNumbers}
+use Rattle.lb_config_valid.specs.Valid.{AreValid, OfEachSetting}
+use Rattle.lb_config.specs.ConfigViews.{BackendView}
+use Rattle.lb_config.specs.Configs.{backends_behind, basis_of, config_of, frontends_behind, globals_in, globals_of, with_global_section}
+use Rattle.lb_config.specs.ValidConfigs.{IsConfig, LeadsWithin, names_of}
+use Rattle.lb_config.proofs.Places.{backends_want, frontends_lead, names_are, same_journals, same_names}
+
+-- one value more, if there is one
+next_ok : {A : Type 0} (P : A → Type 0) (before : Option A) (value : Option A) (rest : List A) →
+    ((start : Option A) → IfSome start P → IfSome (last_or start rest) P) → IfSome value P → IfSome before P → IfSome (last_or before (cons_option value rest)) P
+next_ok P before None rest ends is was = ends before was
+next_ok P before (Some x) rest ends is was = ends (Some x) is
+
+-- the last that is said, if each is so
+last_ok : {A : Type 0} (P : A → Type 0) (value : Setting → Option A) → ((setting : Setting) → HasNumbers setting → IfSome (value setting) P) →
+    (settings : List NumberedSetting) → All (λ numbered. HasNumbers numbered.setting) settings → (before : Option A) → IfSome before P →
+    IfSome (last_said before value settings) P
+last_ok P value is [] are before was = was
+last_ok P value is (numbered ∷ more) are before was =
+    next_ok P before (value numbered.setting) (said value more)
+    (λ start so. last_ok P value is more (All-tail (λ (one : NumberedSetting). HasNumbers one.setting) numbered more are) start so)
+    (is numbered.setting (All-head (λ (one : NumberedSetting). HasNumbers one.setting) numbered more are)) was
+
+relays_ok : (setting : Setting) → HasNumbers setting → IfSome (relays_in setting) (IsFromTo 1 MAX_RELAYS)
+relays_ok (Set.Relays number) is = is
+relays_ok _ is = tt
+
+tries_ok : (setting : Setting) → HasNumbers setting → IfSome (tries_in setting) (IsFromTo 1 MAX_TRIES)
+tries_ok (Set.Tries number) is = is
+tries_ok _ is = tt
+
+journal_ok : (setting : Setting) → HasNumbers setting → IfSome (journal_in setting) (IsFromTo 1 MAX_JOURNAL)
+journal_ok (Set.Journal number) is = is
+journal_ok _ is = tt
+
+-- what is said of the whole program
+record AreGlobals (globals : GlobalsView) : Type 0 where
+  relays : IfSome globals.relays (IsFromTo 1 MAX_RELAYS)
+  tries : IfSome globals.tries (IsFromTo 1 MAX_TRIES)
+  journal : IfSome globals.journal (IsFromTo 1 MAX_JOURNAL)
+
+section_globals : (globals : GlobalsView) (kind : Section) (settings : List NumberedSetting) → All (λ numbered. HasNumbers numbered.setting) settings → AreGlobals globals →
+    AreGlobals (with_global_section globals kind settings)
+section_globals globals Kind.Global settings are is = record {
+  relays = last_ok (IsFromTo 1 MAX_RELAYS) relays_in relays_ok settings are globals.relays is.relays;
+  tries = last_ok (IsFromTo 1 MAX_TRIES) tries_in tries_ok settings are globals.tries is.tries;
+  journal = last_ok (IsFromTo 1 MAX_JOURNAL) journal_in journal_ok settings are globals.journal is.journal;
+}
+section_globals globals _ settings are is = is
+
+all_globals : (globals : GlobalsView) (sections : List SectionView) → OfEachSetting (λ section. HasNumbers) sections → AreGlobals globals → AreGlobals (globals_in globals sections)
+all_globals globals [] are is = is
+all_globals globals (section ∷ more) are is =
+    all_globals (with_global_section globals section.header.section section.settings) more
+    (All-tail (λ (one : SectionView). All (λ (numbered : NumberedSetting). HasNumbers numbered.setting) one.settings) section more are)
+    (section_globals globals section.header.section section.settings
+    (All-head (λ (one : SectionView). All (λ (numbered : NumberedSetting). HasNumbers numbered.setting) one.settings) section more are) is)
+
+-- a value, or its default
+or_default : {A : Type 0} (P : A → Type 0) (o : Option A) (default : A) → IfSome o P → P default → P (unwrap_or o default)
+or_default P None default is by_default = by_default
+or_default P (Some x) default is by_default = is
+
+pub config_is_valid : (sections : SectionsView) → AreValid sections.sections → IsConfig (config_of sections)
+unfolding config_of
+config_is_valid sections are =
+    let all = sections.sections in
+    let basis = basis_of all in
+    let globals : AreGlobals (globals_of all) = all_globals no_globals all are.numbers (record { relays = tt; tries = tt; journal = tt }) in
+    let names : names_of (backends_behind basis no_defaults all) ≡ gathered backend_name all = names_are basis no_defaults all in
+    let count : length basis.backends ≡ length (backends_behind basis no_defaults all) =
+    ap length (same_names all ∙ sym names) ∙ length-map (backends_behind basis no_defaults all) (λ (backend : BackendView). backend.name) in
+    record {
+      relays = or_default (IsFromTo 1 MAX_RELAYS) (globals_of all).relays 8 globals.relays (omega arith, omega arith);
+      tries = or_default (IsFromTo 1 MAX_TRIES) (globals_of all).tries 8 globals.tries (omega arith, omega arith);
+      journals = same_journals (IsFromTo 1 MAX_JOURNAL) basis no_defaults all
+          (or_default (IsFromTo 1 MAX_JOURNAL) (globals_of all).journal 100000 globals.journal (omega arith, omega arith));
+      backends = subst (AreNames MAX_BACKENDS) (sym names) are.backends;
+      leads = subst (λ most. All (LeadsWithin most) (frontends_behind basis no_defaults all)) count (frontends_lead basis no_defaults all);
+      wants = backends_want basis no_defaults all;
+    }

@@ -1,0 +1,13 @@
+//! The core of a running desk: one backend's servers, its table of pins, and where its balance stands.
+//!
+//! Promised: it opens as the backend's opening, and each event that it takes is a step, with the reply that is given, of
+//! every state that it shows; it then shows what follows, the version counted. It takes the events at servers: checks,
+//! commands, connections. What it shows is always what some history of a lawful backend leads to. It keeps no journal.
+//! Private to the `lb_desk` crates. Start at `Core`, and with what it shows at `specs/Seen.antt` of `lb_desk_model`.
+#![tactic(auto)]
+
+mod backend_core;
+mod events;
+mod parts;
+
+pub use backend_core::Core;

@@ -1,0 +1,16 @@
+//! The moves of a plan, shared out among pins that are counted by the servers that they want.
+//!
+//! A plan says how many pins of each place, permitted servers and cost go where. Pins that want other servers may have the same
+//! permitted ones, so a table that counts its pins by what they want has several counts for one kind of the plan.
+//!
+//! Promised: `moves_of` shares the plan's pins out so that each count is used up and each kind goes where the plan sends it.
+//! Start there; the words are in `specs/Moves.antt`.
+#![tactic(auto)]
+
+mod a_move;
+mod handed;
+mod sharing;
+
+pub use a_move::Move;
+pub use handed::{Moving, nothing_is_left};
+pub use sharing::moves_of;

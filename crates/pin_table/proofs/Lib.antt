@@ -1,0 +1,5 @@
+pub mod Names
+pub mod Apart
+pub mod Found
+pub mod Used
+pub mod Counting

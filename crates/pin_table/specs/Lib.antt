@@ -1,0 +1,4 @@
+pub mod Counted
+pub mod Kinds
+pub mod Pins
+pub mod Tables
