@@ -7,8 +7,6 @@
 #![tactic(auto)]
 
 mod judge;
-mod prober;
 mod probing;
 
-pub use prober::Probe;
 pub use probing::probe;

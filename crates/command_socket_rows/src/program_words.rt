@@ -66,6 +66,126 @@ const PLAN_AND_CHECK: [(&[&str], Job); 9] = [
     ),
 ];
 
+/// Words of `verify` with its option.
+const FOR_A_SHEET: [(&[&str], Job); 7] = [
+    (
+        &["stickylb", "verify", "--sheet", "a.sheet", "a.plan"],
+        Job::VerifyForSheet {
+            sheet: "a.sheet",
+            plan: "a.plan",
+        },
+    ),
+    (
+        &["stickylb", "verify", "--sheet=a.sheet", "a.plan"],
+        Job::VerifyForSheet {
+            sheet: "a.sheet",
+            plan: "a.plan",
+        },
+    ),
+    (
+        &["stickylb", "verify", "a.plan", "--sheet", "a.sheet"],
+        Job::VerifyForSheet {
+            sheet: "a.sheet",
+            plan: "a.plan",
+        },
+    ),
+    (
+        &["stickylb", "verify", "a.plan", "--sheet=a=b", "--"],
+        Job::VerifyForSheet {
+            sheet: "a=b",
+            plan: "a.plan",
+        },
+    ),
+    (
+        &["stickylb", "verify", "--sheet", "-", "--", "--sheet"],
+        Job::VerifyForSheet {
+            sheet: "-",
+            plan: "--sheet",
+        },
+    ),
+    (
+        &["stickylb", "verify", "--sheet=", "a.plan"],
+        Job::VerifyForSheet {
+            sheet: "",
+            plan: "a.plan",
+        },
+    ),
+    (
+        &["stickylb", "verify", "--", "--sheet"],
+        Job::Verify { file: "--sheet" },
+    ),
+];
+
+/// Words of `plan` with its option, and the option of the program.
+const AS_TABLES: [(&[&str], Job); 6] = [
+    (
+        &["stickylb", "plan", "--table", "drain.sheet"],
+        Job::PlanTable {
+            file: "drain.sheet",
+        },
+    ),
+    (
+        &["stickylb", "plan", "drain.sheet", "--table"],
+        Job::PlanTable {
+            file: "drain.sheet",
+        },
+    ),
+    (
+        &["stickylb", "plan", "--table", "--", "--table"],
+        Job::PlanTable { file: "--table" },
+    ),
+    (
+        &["stickylb", "plan", "drain.sheet", "--table", "--"],
+        Job::PlanTable {
+            file: "drain.sheet",
+        },
+    ),
+    (
+        &["stickylb", "plan", "--", "--table"],
+        Job::Plan { file: "--table" },
+    ),
+    (&["stickylb", "--version"], Job::Version),
+];
+
+/// Words of `replay`.
+const REPLAY: [(&[&str], Job); 5] = [
+    (
+        &["stickylb", "replay", "drain.cfg", "drain.replay"],
+        Job::Replay {
+            config: "drain.cfg",
+            script: "drain.replay",
+        },
+    ),
+    (
+        &["stickylb", "replay", "--", "-f", "-h"],
+        Job::Replay {
+            config: "-f",
+            script: "-h",
+        },
+    ),
+    (
+        &["stickylb", "replay", "a", "--", "b"],
+        Job::Replay {
+            config: "a",
+            script: "b",
+        },
+    ),
+    (
+        &["stickylb", "replay", "a", "b", "--"],
+        Job::Replay {
+            config: "a",
+            script: "b",
+        },
+    ),
+    (
+        &["stickylb", "replay", "a", "--", "--"],
+        Job::Replay {
+            config: "a",
+            script: "--",
+        },
+    ),
+];
+
 fn expect_jobs(rt: &impl Abort, alloc: Global, rows: &[(&[&str], Job)]) -> Result<(), Fail> {
     for (words, job) in rows {
         assert_eq!(rt; read_words(alloc, words)?, *job, "at {words:?}");
@@ -76,7 +196,10 @@ fn expect_jobs(rt: &impl Abort, alloc: Global, rows: &[(&[&str], Job)]) -> Resul
 #[test]
 fn words_and_the_jobs_that_they_ask_for(rt: HostRuntime) -> Result<(), Fail> {
     expect_jobs(&rt, rt.alloc(), &VERIFY)?;
-    expect_jobs(&rt, rt.alloc(), &PLAN_AND_CHECK)
+    expect_jobs(&rt, rt.alloc(), &PLAN_AND_CHECK)?;
+    expect_jobs(&rt, rt.alloc(), &FOR_A_SHEET)?;
+    expect_jobs(&rt, rt.alloc(), &AS_TABLES)?;
+    expect_jobs(&rt, rt.alloc(), &REPLAY)
 }
 
 /// Wrong words, without a command or of `verify`.
@@ -132,6 +255,81 @@ const WRONG_OF_OTHERS: [(&[&str], ErrorKind); 9] = [
     (&["stickylb", "check", "-f", "-h"], ErrorKind::InvalidValue),
 ];
 
+/// Wrong words of `verify` with its option.
+const WRONG_FOR_A_SHEET: [(&[&str], ErrorKind); 6] = [
+    (
+        &["stickylb", "verify", "--sheet", "a"],
+        ErrorKind::MissingRequiredArgument,
+    ),
+    (&["stickylb", "verify", "--sheet"], ErrorKind::InvalidValue),
+    (
+        &["stickylb", "verify", "--sheet", "--help"],
+        ErrorKind::InvalidValue,
+    ),
+    (
+        &["stickylb", "verify", "--sheet", "a", "--sheet", "b", "c"],
+        ErrorKind::ArgumentConflict,
+    ),
+    (
+        &["stickylb", "verify", "--sheet", "a", "b", "c"],
+        ErrorKind::UnknownArgument,
+    ),
+    (
+        &["stickylb", "verify", "--sheets", "a", "b"],
+        ErrorKind::UnknownArgument,
+    ),
+];
+
+/// Wrong words with the options of other commands and of the program.
+const WRONG_WITH_OPTIONS: [(&[&str], ErrorKind); 7] = [
+    (
+        &["stickylb", "plan", "--table"],
+        ErrorKind::MissingRequiredArgument,
+    ),
+    (
+        &["stickylb", "plan", "--table=yes", "a"],
+        ErrorKind::TooManyValues,
+    ),
+    (
+        &["stickylb", "plan", "--table", "a", "--table"],
+        ErrorKind::ArgumentConflict,
+    ),
+    (
+        &["stickylb", "check", "--table", "-f", "a"],
+        ErrorKind::UnknownArgument,
+    ),
+    (
+        &["stickylb", "--version", "a"],
+        ErrorKind::InvalidSubcommand,
+    ),
+    // To `clap` these are a command's words behind an option of the program.
+    (
+        &["stickylb", "--version", "verify", "a"],
+        ErrorKind::ArgumentConflict,
+    ),
+    (&["stickylb", "-V"], ErrorKind::UnknownArgument),
+];
+
+/// Wrong words of `replay`.
+const WRONG_OF_REPLAY: [(&[&str], ErrorKind); 4] = [
+    (
+        &["stickylb", "replay"],
+        ErrorKind::MissingRequiredArgument,
+    ),
+    (
+        &["stickylb", "replay", "a"],
+        ErrorKind::MissingRequiredArgument,
+    ),
+    (
+        &["stickylb", "replay", "a", "b", "c"],
+        ErrorKind::UnknownArgument,
+    ),
+    (
+        &["stickylb", "replay", "-f", "a", "b"],
+        ErrorKind::UnknownArgument,
+    ),
+];
+
 fn expect_refused(
     rt: &impl Abort,
     alloc: Global,
@@ -148,13 +346,16 @@ fn expect_refused(
 #[test]
 fn other_words_are_refused(rt: HostRuntime) -> Result<(), Fail> {
     expect_refused(&rt, rt.alloc(), &WRONG)?;
-    expect_refused(&rt, rt.alloc(), &WRONG_OF_OTHERS)
+    expect_refused(&rt, rt.alloc(), &WRONG_OF_OTHERS)?;
+    expect_refused(&rt, rt.alloc(), &WRONG_FOR_A_SHEET)?;
+    expect_refused(&rt, rt.alloc(), &WRONG_WITH_OPTIONS)?;
+    expect_refused(&rt, rt.alloc(), &WRONG_OF_REPLAY)
 }
 
 // Help is no mistake and goes to the standard output.
 #[test]
 fn help_ends_well(rt: HostRuntime) -> Result<(), Fail> {
-    let helped: [&[&str]; 8] = [
+    let helped: [&[&str]; 12] = [
         &["stickylb", "--help"],
         &["stickylb", "-h"],
         &["stickylb", "verify", "--help"],
@@ -163,6 +364,10 @@ fn help_ends_well(rt: HostRuntime) -> Result<(), Fail> {
         &["stickylb", "plan", "-h"],
         &["stickylb", "check", "-h"],
         &["stickylb", "check", "-fa", "--help"],
+        &["stickylb", "verify", "--sheet", "a", "--help"],
+        &["stickylb", "verify", "a", "--sheet=b", "-h"],
+        &["stickylb", "plan", "--table", "-h"],
+        &["stickylb", "replay", "a", "b", "--help"],
     ];
     for words in helped {
         let error = read_words(rt.alloc(), words).err().ok_or("an error")?;
@@ -181,11 +386,11 @@ fn help_names_the_commands_and_their_files(rt: HostRuntime) -> Result<(), Fail> 
         ),
         (
             &["stickylb", "plan", "--help"],
-            "Usage: stickylb plan <FILE>\n\nArguments:\n  <FILE>  File that holds",
+            "Usage: stickylb plan [OPTIONS] <FILE>\n\nArguments:\n  <FILE>  File that holds",
         ),
         (
             &["stickylb", "verify", "--help"],
-            "Usage: stickylb verify <FILE>\n\nArguments:\n  <FILE>  File that holds",
+            "Usage: stickylb verify [OPTIONS] <FILE>\n\nArguments:\n  <FILE>  File that holds",
         ),
         (
             &["stickylb", "verify"],

@@ -1,7 +1,7 @@
 -- How pins stand before any is pushed: each at an option of least cost.
-use Rattle.std.specs.Prelude.{◌≡◌, ℕ, ◌*◌, ◌<◌, ◌≤◌, true, List, length}
+use Rattle.std.specs.Prelude.{◌≡◌, ℕ, suc, ◌*◌, ◌<◌, ◌≤◌, nat_lt, ◌&&◌, true, Option, Some, None, is_some, List, length, if◌then◌else◌}
 use Rattle.pin_set.specs.Costs.{sum_to}
-use Rattle.flow_planner_net.specs.Networks.{NetworkParts, IsNetwork, options, size, cost, may, count}
+use Rattle.flow_planner_net.specs.Networks.{NetworkParts, IsNetwork, options, size, cost, may, count, group_at}
 use Rattle.flow_planner_net.specs.States.{AreLoads}
 
 -- the group's pins may go to the option, and to none at less cost
@@ -25,3 +25,17 @@ pub record IsRoomy (network : NetworkParts) (counts loads : List ℕ) : Type 0 w
   pub lawful : IsNetwork network
   pub table : length counts ≡ options network * size network
   pub loads_len : length loads ≡ options network
+
+-- the option of this place, if pins of the group may go there
+abbrev pub option_at : NetworkParts → ℕ → Option ℕ → Option ℕ
+option_at network group None = None
+option_at network group (Some server) =
+    if nat_lt (suc server) (options network) && may network group (suc server) then Some (suc server) else None
+
+-- the option that leaves the group's pins where they are, if they may stay there
+abbrev pub own_option : NetworkParts → ℕ → Option ℕ
+own_option network group = option_at network group (group_at network group).kind.place
+
+-- how many of the group's pins can't stay where they are: all or none
+abbrev pub waiting : NetworkParts → ℕ → ℕ
+waiting network group = if is_some (own_option network group) then 0 else count network group

@@ -6,12 +6,15 @@
 #![tactic(auto)]
 
 mod homes;
+mod level;
 mod placing;
 mod planned;
 mod planner;
 mod rows;
 mod sheet_parts;
 mod solving;
+mod spread;
+mod spreading;
 mod written;
 
 pub use planned::Planned;

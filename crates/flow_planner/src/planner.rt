@@ -47,6 +47,7 @@ fn planned(alloc: Global, sheet: &Sheet, network: &Network) -> Result<Planned, A
     let mut arcs = Arcs::new(alloc, options)?;
     let pushes = solve(
         network,
+        sheet.groups(),
         &mut counts,
         &mut prices,
         &mut loads,

@@ -56,7 +56,8 @@ fn add_rows(
     Ok(())
 }
 
-fn place_of(option: usize) -> Place
+/// The place that the option stands for.
+pub(crate) fn place_of(option: usize) -> Place
     requires { option < MOST_OPTIONS }
     ensures { result ≡ place_of option }
 {

@@ -6,6 +6,8 @@
 #[cfg(test)]
 mod brute_force;
 #[cfg(test)]
+mod even_loads;
+#[cfg(test)]
 mod plain_sheet;
 #[cfg(test)]
 mod random_sheets;

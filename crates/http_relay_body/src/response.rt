@@ -4,8 +4,8 @@ ghost use Rattle.http_relay_body.specs.Copies.{Copied, server_faults, client_fau
 use http_relay_wire::{Wire, WireFault, write_all};
 use thiserror::Error;
 
-/// The most bytes that are moved at once.
-const ROOM: usize = 16384;
+/// The most bytes that are moved at once: with as many a call of the system costs little beside the bytes that it moves.
+const ROOM: usize = 65536;
 
 /// Why a response was not copied to its end.
 #[derive(Clone, Copy, Debug, PartialEq, Eq, Error)]

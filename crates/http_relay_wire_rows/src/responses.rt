@@ -1,6 +1,61 @@
 use http_relay_body::{CopyFault, copy_back};
-use http_relay_wire::{Script, ScriptedWire, WireFault};
+use http_relay_wire::{Script, ScriptedWire, Wire, WireFault};
+use std::cell::Cell;
 use std::test::Fail;
+
+/// A scripted wire that notes its calls in a log which it shares: each adds its digit behind those before.
+#[derive(Drop)]
+struct Noting<'a> {
+    wire: ScriptedWire<'a>,
+    log: &'a Cell<u64>,
+}
+
+impl Noting<'_> {
+    fn note(&self, digit: u64) {
+        let digits = self.log.get().saturating_mul(10);
+        self.log.set(digits.saturating_add(digit));
+    }
+}
+
+impl<'a> Wire for Noting<'a> {
+    ghost use Rattle.http_relay_wire.specs.Wires.{Reading};
+
+    ghost reading = { λ noting. ⟦<ScriptedWire<'a> as Wire>⟧.reading noting.wire };
+
+    ghost written = { λ noting. ⟦<ScriptedWire<'a> as Wire>⟧.written noting.wire };
+
+    ghost faults = { λ noting. ⟦<ScriptedWire<'a> as Wire>⟧.faults noting.wire };
+
+    fn read(&mut self, buffer: &mut [u8]) -> Result<usize, WireFault> {
+        self.note(1);
+        self.wire.read(buffer)
+    }
+
+    fn write(&mut self, bytes: &[u8]) -> Result<usize, WireFault> {
+        self.note(2);
+        self.wire.write(bytes)
+    }
+}
+
+// What a read of the server gives goes out before the next read: an event stream doesn't wait for a full room.
+#[test]
+fn a_response_goes_out_as_it_comes(rt: HostRuntime) {
+    let log = Cell::new(0);
+    let script = Script {
+        pieces: &[1],
+        ..Script::SMOOTH
+    };
+    let mut server = Noting {
+        wire: ScriptedWire::new(rt.alloc(), b"abc", script),
+        log: &log,
+    };
+    let mut client = Noting {
+        wire: ScriptedWire::new(rt.alloc(), b"", Script::SMOOTH),
+        log: &log,
+    };
+    let copied = copy_back(&mut server, &mut client);
+    assert!(rt; copied == Ok(3) && log.get() == 1_212_121);
+}
 
 #[test]
 fn responses_are_copied_to_their_end(rt: HostRuntime) -> Result<(), Fail> {

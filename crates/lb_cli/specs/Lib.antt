@@ -1,4 +1,6 @@
+pub mod Asking
 pub mod Checking
 pub mod Planning
 pub mod Statuses
+pub mod Tables
 pub mod Verify

@@ -10,9 +10,10 @@ use Rattle.dual_cert.specs.Faults.{fault_text}
 use Rattle.dual_cert.specs.PlanTexts.{plan_of_text}
 use Rattle.cert_check.specs.declared.fault.CheckFault.{CheckFault}
 use Rattle.cert_check.specs.Faults.{fault_text as check_fault_text}
-use Rattle.cert_check.specs.Verdict.{verdict}
+use Rattle.cert_check.specs.Verdict.{verdict, IsMadeFor}
+use Rattle.dual_cert_plan.specs.Sheets.{SheetParts}
 use Rattle.lb_cli.specs.declared.finding.Finding.{Finding}
-use Rattle.lb_cli.specs.declared.finding.Finding.TheVariants.{Best, NoPlan, Refused}
+use Rattle.lb_cli.specs.declared.finding.Finding.TheVariants.{Best, NoPlan, Refused, OtherVersion}
 
 -- what the checker says of a plan and the sheet that it speaks of
 abbrev pub finding_of_verdict : Result Score CheckFault → Finding
@@ -39,6 +40,39 @@ abbrev pub MeansBest : List ℕ → Finding → Type 0
 MeansBest text (Best score) = IsBestPlan text score
 MeansBest text (NoPlan fault) = ⊤
 MeansBest text (Refused fault) = ⊤
+MeansBest text (OtherVersion plan sheet) = ⊤
+
+-- ---- a plan for a given sheet
+
+-- what the checker says of a plan for a sheet. The checker doesn't compare versions: a plan of another one is told by both
+abbrev pub finding_at_versions : ℕ → ℕ → Result Score CheckFault → Finding
+finding_at_versions plan sheet (Ok score) = if plan == sheet then Best score else OtherVersion plan sheet
+finding_at_versions plan sheet (Err fault) = Refused fault
+
+abbrev pub finding_of_reading_for : SheetParts → Result PlanParts TextFault → Finding
+finding_of_reading_for sheet (Ok plan) = finding_at_versions plan.version sheet.version (verdict sheet plan)
+finding_of_reading_for sheet (Err fault) = NoPlan fault
+
+-- what is found of a text whose plan is to be for the sheet
+abbrev pub finding_for : SheetParts → List ℕ → Finding
+finding_for sheet text = finding_of_reading_for sheet (plan_of_text text)
+
+-- the text spells a plan of the sheet's version, made for the sheet; each assignment that agrees with the plan is best at the
+-- sheet's capacities, and has this score
+pub record IsBestPlanFor (sheet : SheetParts) (text : List ℕ) (score : Score) : Type 0 where
+  pub plan : PlanParts
+  pub read : plan_of_text text ≡ Ok plan
+  pub version : plan.version ≡ sheet.version
+  pub made_for : IsMadeFor sheet plan
+  pub agreeing : AgreeingAreBest (sheet_room sheet) plan.rows
+  pub score_is : rows_score plan.rows ≡ score
+
+-- what such a finding says of plans
+abbrev pub MeansBestFor : SheetParts → List ℕ → Finding → Type 0
+MeansBestFor sheet text (Best score) = IsBestPlanFor sheet text score
+MeansBestFor sheet text _ = ⊤
+
+-- ---- what is printed
 
 abbrev pub is_best : Finding → Bool
 is_best (Best score) = true
@@ -56,10 +90,15 @@ score_words score =
 abbrev pub score_line : Score → List ℕ
 score_line score = if score.cost == score.moved then score_words score else score_words score ++ labelled (codes " cost ") score.cost
 
+-- the two versions, where they differ
+abbrev pub versions_line : ℕ → ℕ → List ℕ
+versions_line plan sheet = labelled (codes "version ") plan ++ labelled (codes " differs from the sheet's ") sheet
+
 abbrev pub finding_text : Finding → List ℕ
 finding_text (Best score) = score_line score
 finding_text (NoPlan fault) = fault_text fault
 finding_text (Refused fault) = check_fault_text fault
+finding_text (OtherVersion plan sheet) = versions_line plan sheet
 
 -- the finding as it is printed
 abbrev pub line_of : Finding → List ℕ

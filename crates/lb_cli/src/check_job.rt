@@ -2,11 +2,12 @@ ghost use Rattle.std.specs.Prelude.{◌≡◌, ◌++◌, codes, OnOk, IfOk, IfSo
 ghost use Rattle.std.specs.List.{flat_map};
 ghost use Rattle.std.specs.Io.KnownBytes.{Appends};
 ghost use Rattle.lb_config_sections.specs.References.{checked_in};
-ghost use Rattle.lb_cli.specs.Checking.{line_label, cause_name, cause_text, fault_line, warning_line, report_of, is_valid};
+ghost use Rattle.lb_cli.specs.Checking.{warning_line, report_of, is_valid};
 
 use crate::JobError;
 use crate::input::whole;
-use lb_config_sections::{Cause, ConfigFault, LocatedFault, Sections, Warning, read_checked};
+use lb_cli_faults::{config_fault_line, push_line_label};
+use lb_config_sections::{ConfigFault, Sections, Warning, read_checked};
 use std::alloc::{AllocError, Global};
 use std::io::{Read, Write};
 
@@ -46,7 +47,7 @@ impl Report {
             }),
             Err(ConfigFault::Fault(fault)) => Ok(Report {
                 is_valid: false,
-                text: fault_line(alloc, &fault)?,
+                text: config_fault_line(alloc, &fault)?,
             }),
             Err(ConfigFault::Memory) => Err(AllocError),
         }
@@ -81,57 +82,8 @@ fn push_warnings(
 fn push_warning(alloc: Global, report: &mut Vec<u8>, warning: &Warning) -> Result<(), AllocError>
     ensures { OnOk result (report.new.items ≡ report.old.items ++ warning_line warning.now) }
 {
-    push_label(alloc, report, warning.line)?;
+    push_line_label(alloc, report, warning.line)?;
     report.extend_from_slice(warning.words.as_bytes())?;
     report.extend_from_slice(b" ignored\n")?;
     Ok(())
-}
-
-fn fault_line(alloc: Global, fault: &LocatedFault) -> Result<Vec<u8>, AllocError>
-    ensures { IfOk result (λ line. line.items ≡ fault_line fault.now) }
-{
-    let mut line = Vec::new(alloc);
-    push_label(alloc, &mut line, fault.line)?;
-    push_cause(&mut line, &fault.cause)?;
-    line.extend_from_slice(b"\n")?;
-    Ok(line)
-}
-
-/// Puts `line N: ` behind the text.
-fn push_label(alloc: Global, text: &mut Vec<u8>, line: u32) -> Result<(), AllocError>
-    ensures { OnOk result (text.new.items ≡ text.old.items ++ line_label line) }
-{
-    text.extend_from_slice(b"line ")?;
-    text.extend_from_slice(line.to_string(alloc)?.as_bytes())?;
-    text.extend_from_slice(b": ")?;
-    Ok(())
-}
-
-/// Puts the fault's number and name behind the text, and the word that is left out.
-fn push_cause(text: &mut Vec<u8>, cause: &Cause) -> Result<(), AllocError>
-    ensures { OnOk result (text.new.items ≡ text.old.items ++ cause_text cause.now) }
-{
-    text.extend_from_slice(cause_name(cause))?;
-    if let Cause::LeftOut(word) = cause {
-        text.extend_from_slice(word.as_bytes())?;
-    }
-    Ok(())
-}
-
-/// The fault's number and name, with a space where its word follows.
-fn cause_name(cause: &Cause) -> &'static [u8]
-    ensures { result.now ≡ cause_name cause.now }
-{
-    match cause {
-        Cause::NotUtf8 => b"20 NotUtf8",
-        Cause::UnknownSection => b"21 UnknownSection",
-        Cause::UnknownWord => b"22 UnknownWord",
-        Cause::Missing => b"23 Missing",
-        Cause::BadNumber => b"24 BadNumber",
-        Cause::BadName => b"25 BadName",
-        Cause::Duplicate => b"26 Duplicate",
-        Cause::NoSuchName => b"27 NoSuchName",
-        Cause::TooMany => b"28 TooMany",
-        Cause::LeftOut(_) => b"29 LeftOut ",
-    }
 }

@@ -1,10 +1,14 @@
 ghost use Rattle.std.specs.Prelude.{◌≡◌};
 ghost use Rattle.lb_cli.specs.Statuses.{status_of};
 
-use crate::{JobError, check, plan, verify};
+use crate::input::whole;
+use crate::{JobError, check, plan, plan_tables, sheet_for, verify, verify_for, version};
+use dual_cert::Sheet;
 use lb_cli_words::Job;
+use lb_replay::replay;
+use lb_types::Counted;
 use std::alloc::Global;
-use std::io::Write;
+use std::io::{BufRead, BufReader, BufWriter, Write};
 use std::rt::Files;
 use std::{fs, io};
 
@@ -19,8 +23,12 @@ pub fn perform<R: Files, O: Write, E: Write>(
 ) -> u8 {
     let (file, done) = match job {
         Job::Verify { file } => (file, verify_file(alloc, rt, file, out)),
+        Job::VerifyForSheet { sheet, plan } => verify_files(alloc, rt, sheet, plan, out),
         Job::Plan { file } => (file, plan_file(alloc, rt, file, out)),
+        Job::PlanTable { file } => (file, table_file(alloc, rt, file, out)),
         Job::Check { file } => (file, check_file(alloc, rt, file, out)),
+        Job::Replay { config, script } => replay_files(alloc, rt, config, script, out, err),
+        Job::Version => ("", version(out)),
     };
     if let Err(error) = done {
         // A message that can't be written leaves only the status.
@@ -48,6 +56,126 @@ fn verify_file<R: Files, O: Write>(
 ) -> Result<bool, JobError> {
     let mut file = opened(rt, path)?;
     Ok(verify(alloc, &mut file, out)?.is_best())
+}
+
+/// Whether the plan in the one file is best for the sheet in the other. The sheet is judged before the plan is opened.
+/// Beside that stands the file that the error is of, if there is one.
+fn verify_files<'a, R: Files, O: Write>(
+    alloc: Global,
+    rt: &R,
+    sheet_path: &'a str,
+    plan_path: &'a str,
+    out: &mut O,
+) -> (&'a str, Result<bool, JobError>) {
+    match sheet_file(alloc, rt, sheet_path, out) {
+        Ok(Some(sheet)) => (plan_path, plan_file_for(alloc, rt, &sheet, plan_path, out)),
+        Ok(None) => (sheet_path, Ok(false)),
+        Err(error) => (sheet_path, Err(error)),
+    }
+}
+
+/// The file's sheet, where its text is one.
+fn sheet_file<R: Files, O: Write>(
+    alloc: Global,
+    rt: &R,
+    path: &str,
+    out: &mut O,
+) -> Result<Option<Sheet>, JobError> {
+    let mut file = opened(rt, path)?;
+    sheet_for(alloc, &mut file, out)
+}
+
+/// Whether the file's plan is best for the sheet.
+fn plan_file_for<R: Files, O: Write>(
+    alloc: Global,
+    rt: &R,
+    sheet: &Sheet,
+    path: &str,
+    out: &mut O,
+) -> Result<bool, JobError> {
+    let mut file = opened(rt, path)?;
+    Ok(verify_for(alloc, sheet, &mut file, out)?.is_best())
+}
+
+/// Whether the file's text is a sheet's, of which a plan's tables were written.
+fn table_file<R: Files, O: Write>(
+    alloc: Global,
+    rt: &R,
+    path: &str,
+    out: &mut O,
+) -> Result<bool, JobError> {
+    let mut file = opened(rt, path)?;
+    plan_tables(alloc, &mut file, out)
+}
+
+/// Whether nothing hindered the replay of the one file's script at the backend of the other's configuration, which is judged before
+/// anything else is told. Beside that stands the file that the error is of, if there is one.
+fn replay_files<'a, R: Files, O: Write, E: Write>(
+    alloc: Global,
+    rt: &R,
+    config_path: &'a str,
+    script_path: &'a str,
+    out: &mut O,
+    err: &mut E,
+) -> (&'a str, Result<bool, JobError>) {
+    match whole_file(alloc, rt, config_path) {
+        Ok(config) => (
+            script_path,
+            replay_file(alloc, rt, &config, script_path, out, err),
+        ),
+        Err(error) => (config_path, Err(error)),
+    }
+}
+
+fn whole_file<R: Files>(alloc: Global, rt: &R, path: &str) -> Result<Vec<u8>, JobError> {
+    let mut file = opened(rt, path)?;
+    whole(alloc, &mut file)
+}
+
+/// Whether nothing hindered the replay of the file's script.
+fn replay_file<R: Files, O: Write, E: Write>(
+    alloc: Global,
+    rt: &R,
+    config: &[u8],
+    path: &str,
+    out: &mut O,
+    err: &mut E,
+) -> Result<bool, JobError> {
+    let Ok(script) = opened(rt, path) else {
+        // A fault of the configuration goes before a script that can't be opened.
+        let is_judged = replay_lines(alloc, config, b"".as_slice(), out, err)?;
+        return if is_judged {
+            Err(JobError::CannotRead)
+        } else {
+            Ok(false)
+        };
+    };
+    match BufReader::new(alloc, script) {
+        Ok(script) => replay_lines(alloc, config, script, out, err),
+        Err(_) => Err(JobError::OutOfMemory),
+    }
+}
+
+/// Replays lines with an answer that is buffered, so that many short ones cost few writes.
+fn replay_lines<S: BufRead + Drop, O: Write, E: Write>(
+    alloc: Global,
+    config: &[u8],
+    script: S,
+    out: &mut O,
+    err: &mut E,
+) -> Result<bool, JobError> {
+    let Ok(buffer) = BufWriter::new(alloc, out) else {
+        return Err(JobError::OutOfMemory);
+    };
+    let mut answers = Counted::new(buffer);
+    let done = replay(alloc, config, script, &mut answers, err);
+    // What was answered stands, also where the job ends behind it.
+    let flushed = answers.flush();
+    let is_whole = done?;
+    match flushed {
+        Ok(()) => Ok(is_whole),
+        Err(_) => Err(JobError::CannotWrite),
+    }
 }
 
 /// Whether the file's text is a sheet's, of which a plan was written.
@@ -80,11 +208,11 @@ fn opened<R: Files>(rt: &R, path: &str) -> Result<R::File, JobError> {
     }
 }
 
-/// Tells on standard error what hindered a job. A failed write to standard output is told by the status alone.
+/// Tells on standard error what hindered a job.
 fn tell<E: Write>(err: &mut E, error: JobError, file: &str) -> io::Result<()> {
     match error {
         JobError::CannotRead => writeln!(err, "cannot read {file}"),
         JobError::OutOfMemory => writeln!(err, "out of memory"),
-        JobError::CannotWrite => Ok(()),
+        JobError::CannotWrite => writeln!(err, "cannot write"),
     }
 }

@@ -1,11 +1,13 @@
-ghost use Rattle.std.specs.Prelude.{◌≡◌, ◌++◌, ◌∷◌, [], ℕ, List, OnOk, IfOk, IfSome};
+ghost use Rattle.std.specs.Prelude.{◌≡◌, ◌++◌, ◌∷◌, [], ℕ, List, false, OnOk, IfOk, IfSome};
 ghost use Rattle.std.specs.Io.KnownBytes.{Appends};
 ghost use Rattle.dual_cert.specs.Faults.{fault_text};
 ghost use Rattle.dual_cert.specs.SheetTexts.{sheet_of_text};
 ghost use Rattle.lb_cli.specs.Planning.{Answers, IsPlanFor, was_read};
+ghost use Rattle.lb_cli.specs.Tables.{AreTablesFor, TellsTables};
 
 use crate::JobError;
 use crate::input::whole;
+use crate::tables::tables_text;
 use dual_cert::{ReadError, Sheet, TextFault, read_sheet, write_plan};
 use flow_planner::plan as best_plan;
 use lb_types::Counted;
@@ -23,11 +25,26 @@ pub fn plan<R: Read, W: Write>(alloc: Global, file: &mut R, out: &mut W) -> Resu
         (written : List ℕ) × Answers text written × Appends (W.contents out.old) (W.contents out.new) written)) }
 {
     let text = whole(alloc, file)?;
-    let answer = Answer::to(alloc, &text)?;
-    match out.write_all(&answer.text) {
-        Ok(()) => Ok(answer.is_sheet),
-        Err(_) => Err(JobError::CannotWrite),
-    }
+    Answer::to(alloc, &text)?.write(out)
+}
+
+/// Reads the text of a sheet to its end, and writes a best plan for it as tables for a reader: where pins go, and then each place with
+/// its pins before and after, its capacity and its price. Or it writes the first fault of the text. Tells whether the text was a
+/// sheet's.
+///
+/// The sheet, the plan and the tables are held whole: what is larger than memory is want of memory.
+pub fn plan_tables<R: Read, W: Write>(
+    alloc: Global,
+    file: &mut R,
+    out: &mut W,
+) -> Result<bool, JobError>
+    ensures read { IfOk result (λ is_sheet. IfSome (R.remaining file.old) (λ text.
+        is_sheet ≡ was_read (sheet_of_text text))) }
+    ensures written { OnOk result (IfSome (R.remaining file.old) (λ text.
+        (written : List ℕ) × TellsTables text written × Appends (W.contents out.old) (W.contents out.new) written)) }
+{
+    let text = whole(alloc, file)?;
+    Answer::with_tables(alloc, &text)?.write(out)
 }
 
 /// What is written for a text.
@@ -47,11 +64,46 @@ impl Answer {
                 is_sheet: true,
                 text: plan_text(alloc, &sheet)?,
             }),
-            Err(ReadError::Fault(fault)) => Ok(Answer {
-                is_sheet: false,
-                text: fault_line(alloc, fault)?,
-            }),
+            Err(ReadError::Fault(fault)) => Answer::of_fault(alloc, fault),
             Err(ReadError::Memory) => Err(AllocError),
+        }
+    }
+
+    fn with_tables(alloc: Global, text: &[u8]) -> Result<Answer, AllocError>
+        ensures written { IfOk result (λ answer. TellsTables text.now answer.text.items) }
+        ensures read { IfOk result (λ answer. answer.is_sheet ≡ was_read (sheet_of_text text.now)) }
+    {
+        match read_sheet(alloc, text) {
+            Ok(sheet) => Ok(Answer {
+                is_sheet: true,
+                text: tables_for(alloc, &sheet)?,
+            }),
+            Err(ReadError::Fault(fault)) => Answer::of_fault(alloc, fault),
+            Err(ReadError::Memory) => Err(AllocError),
+        }
+    }
+
+    /// The answer to a text that is no sheet's.
+    fn of_fault(alloc: Global, fault: TextFault) -> Result<Answer, AllocError>
+        ensures written { IfOk result (λ answer. answer.text.items ≡ fault_text fault ++ 10 ∷ []) }
+        ensures read { IfOk result (λ answer. answer.is_sheet ≡ false) }
+    {
+        let mut line = fault.text(alloc)?;
+        line.push('\n')?;
+        Ok(Answer {
+            is_sheet: false,
+            text: line.into_bytes(),
+        })
+    }
+
+    /// Writes the answer, and tells whether the text was a sheet's.
+    fn write<W: Write>(&self, out: &mut W) -> Result<bool, JobError>
+        ensures read { IfOk result (λ is_sheet. is_sheet ≡ self.now.is_sheet) }
+        ensures written { OnOk result (Appends (W.contents out.old) (W.contents out.new) self.now.text.items) }
+    {
+        match out.write_all(&self.text) {
+            Ok(()) => Ok(self.is_sheet),
+            Err(_) => Err(JobError::CannotWrite),
         }
     }
 }
@@ -68,11 +120,10 @@ fn plan_text(alloc: Global, sheet: &Sheet) -> Result<Vec<u8>, AllocError>
     }
 }
 
-/// The fault as it is printed, with its line end.
-fn fault_line(alloc: Global, fault: TextFault) -> Result<Vec<u8>, AllocError>
-    ensures { IfOk result (λ line. line.items ≡ fault_text fault ++ 10 ∷ []) }
+/// The tables of a best plan for the sheet.
+fn tables_for(alloc: Global, sheet: &Sheet) -> Result<Vec<u8>, AllocError>
+    ensures { IfOk result (λ text. AreTablesFor sheet.now text.items) }
 {
-    let mut line = fault.text(alloc)?;
-    line.push('\n')?;
-    Ok(line.into_bytes())
+    let best = best_plan(alloc, sheet)?;
+    tables_text(alloc, best.plan())
 }

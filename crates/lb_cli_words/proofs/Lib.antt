@@ -1,7 +1,1 @@
-pub mod Word
-pub mod Judgement
-pub mod Leaf
-pub mod OneFile
-pub mod FileOption
-pub mod AllWords
-pub mod Parsed
+pub mod Exact

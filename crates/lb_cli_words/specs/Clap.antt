@@ -1,27 +1,43 @@
--- The table as `clap` sees it. No public clause cites this module.
-use Rattle.std.specs.Prelude.{true, List, [], ◌∷◌, Option, Some, None, option_map, if◌then◌else◌, codes, bytes_eq}
-use Rattle.clap.specs.Words.{App, Row as Matched, Rule, Text, first_of, new_app, new_rule, with_rule, with_subcommand}
-use Rattle.lb_cli_words.specs.Table.{Row}
+-- The commands as `clap` sees them, so that it gives the help that is asked for. No public clause cites this module.
+use Rattle.std.specs.Prelude.{true, Some, codes}
+use Rattle.clap.specs.Words.{App, Rule, Text, new_app, new_rule, with_rule, with_subcommand}
+use Rattle.clap.specs.declared.builder.action.ArgAction.TheVariants.{SetTrue}
 
 -- the argument that names a file
 abbrev pub file_rule : Rule
 file_rule = record (new_rule (codes "file")) { value_names = 1; required = true }
 
--- a command that takes one file
-abbrev pub file_command : Text → App
-file_command name = with_rule (new_app name) file_rule
-
 -- the option `-f` (102), which names a file
-abbrev pub option_rule : Rule
-option_rule = record (new_rule (codes "file")) { short = Some 102; value_names = 1; required = true }
+abbrev pub file_option_rule : Rule
+file_option_rule = record (new_rule (codes "file")) { short = Some 102; value_names = 1; required = true }
 
--- the command that takes a file by `-f`
-abbrev pub check_command : App
-check_command = with_rule (new_app (codes "check")) option_rule
+-- an option with a long name, which names a file
+abbrev pub named_rule : Text → Rule
+named_rule name = record (new_rule name) { long = Some name; value_names = 1 }
 
--- the program without its commands
-abbrev pub program_app : App
-program_app = let program : App = new_app (codes "stickylb") in record program {
+-- an option with a long name and no value
+abbrev pub flag_rule : Text → Rule
+flag_rule name = record (new_rule name) { long = Some name; action = Some SetTrue }
+
+abbrev pub verify_app : App
+verify_app = with_rule (with_rule (new_app (codes "verify")) (named_rule (codes "sheet"))) file_rule
+
+abbrev pub plan_app : App
+plan_app = with_rule (with_rule (new_app (codes "plan")) (flag_rule (codes "table"))) file_rule
+
+abbrev pub check_app : App
+check_app = with_rule (new_app (codes "check")) file_option_rule
+
+-- an argument in its place that names a file
+abbrev pub operand_rule : Text → Rule
+operand_rule name = record (new_rule name) { value_names = 1; required = true }
+
+abbrev pub replay_app : App
+replay_app = with_rule (with_rule (new_app (codes "replay")) (operand_rule (codes "config"))) (operand_rule (codes "script"))
+
+-- the program without its option and its commands
+abbrev pub plain_app : App
+plain_app = let program : App = new_app (codes "stickylb") in record program {
   top = record program.top {
     arg_required_else_help = true;
     subcommand_required = true;
@@ -29,15 +45,11 @@ program_app = let program : App = new_app (codes "stickylb") in record program {
   };
 }
 
+-- the program without its commands
+abbrev pub program_app : App
+program_app = with_rule plain_app (flag_rule (codes "version"))
+
 -- the program with its commands
 abbrev pub commands_app : App
-commands_app = with_subcommand (with_subcommand (with_subcommand program_app
-    (file_command (codes "verify")).top) (file_command (codes "plan")).top) check_command.top
-
--- the row of the table that a subcommand with its matches is
-abbrev pub row_named : Text × List Matched → Option Row
-row_named met =
-    if bytes_eq met.0 (codes "verify") then option_map (λ file. (codes "verify", file ∷ [])) (first_of (codes "file") met.1)
-    else if bytes_eq met.0 (codes "plan") then option_map (λ file. (codes "plan", file ∷ [])) (first_of (codes "file") met.1)
-    else if bytes_eq met.0 (codes "check") then option_map (λ file. (codes "check", file ∷ [])) (first_of (codes "file") met.1)
-    else None
+commands_app = with_subcommand (with_subcommand (with_subcommand (with_subcommand program_app
+    verify_app.top) plan_app.top) check_app.top) replay_app.top

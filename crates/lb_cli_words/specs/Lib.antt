@@ -1,4 +1,5 @@
-pub mod ExitStatus
-pub mod Words
-pub mod Table
 pub mod Clap
+pub mod ExitStatus
+pub mod Given
+pub mod Table
+pub mod Words

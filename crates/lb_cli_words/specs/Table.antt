@@ -1,52 +1,83 @@
 -- The program's table of commands: what the words behind the program's name ask for.
-use Rattle.std.specs.Prelude.{◌==◌, ◌||◌, ℕ, Bool, false, List, [], ◌∷◌, length}
-use Rattle.std.specs.Prelude.{Option, Some, None, option_map, option_and_then, if◌then◌else◌, codes, bytes_eq}
-use Rattle.lb_cli_words.specs.Words.{Text, operands, option_file, is_help, asks_help_within, asks_help_beside_file}
+use Rattle.std.specs.Prelude.{◌||◌, Bool, false, List, [], ◌∷◌}
+use Rattle.std.specs.Prelude.{Option, Some, None, option_map, if◌then◌else◌, codes, bytes_eq}
+use Rattle.std.specs.Option.{option_or}
+use Rattle.lb_cli_words.specs.Words.{Text, Reader, flagged, lettered, named, operands_of, files_with, taken_out, is_help, asks_help_within, asks_help_with}
 use Rattle.lb_cli_words.specs.declared.job.Job.{Job}
-use Rattle.lb_cli_words.specs.declared.job.Job.TheVariants.{Verify, Plan, Check}
+use Rattle.lb_cli_words.specs.declared.job.Job.TheVariants.{Verify, VerifyForSheet, Plan, PlanTable, Check, Replay, Version}
+use Rattle.lb_cli_words.specs.declared.own_option.OwnOption.{OwnOption}
+use Rattle.lb_cli_words.specs.declared.own_option.OwnOption.TheVariants.{File, Sheet, Table}
 
--- a row of the table: a command, and its files
+-- a row of the table: a command, with its option where that makes it another one, and its files
 abbrev pub Row : Type 0
 Row = Text × List Text
 
 -- the row that a job is
 abbrev pub row_of : Job → Row
 row_of (Verify file) = (codes "verify", file.now ∷ [])
+row_of (VerifyForSheet sheet plan) = (codes "verify --sheet", sheet.now ∷ plan.now ∷ [])
 row_of (Plan file) = (codes "plan", file.now ∷ [])
+row_of (PlanTable file) = (codes "plan --table", file.now ∷ [])
 row_of (Check file) = (codes "check", file.now ∷ [])
+row_of (Replay config script) = (codes "replay", config.now ∷ script.now ∷ [])
+row_of Version = (codes "--version", [])
 
--- these files, where they are n
-abbrev pub exactly : ℕ → List Text → Option (List Text)
-exactly n files = if length files == n then Some files else None
+-- the options by which a command is another one, or names its file
+abbrev pub reader_of : OwnOption → Reader
+reader_of File = lettered 102
+reader_of Sheet = named (codes "--sheet")
+reader_of Table = flagged (codes "--table")
 
--- the one file of `verify` and of `plan`
-abbrev pub one_file : List Text → Option (List Text)
-one_file words = option_and_then (exactly 1) (operands words)
+-- these files as a row of the table
+abbrev pub as_row : Text → Option (List Text) → Option Row
+as_row command = option_map (λ files. (command, files))
 
--- the files that the words behind a command name
-abbrev pub files_of : Text → List Text → Option (List Text)
-files_of command words =
-    if bytes_eq command (codes "verify") then one_file words
-    else if bytes_eq command (codes "plan") then one_file words
-    else if bytes_eq command (codes "check") then option_map (λ file. file ∷ []) (option_file words)
+-- the rows of the table, by their commands
+abbrev pub verify_row : List Text → Option Row
+verify_row words = option_or (as_row (codes "verify") (operands_of 1 words))
+    (as_row (codes "verify --sheet") (files_with (taken_out (reader_of Sheet)) 1 words))
+
+abbrev pub plan_row : List Text → Option Row
+plan_row words = option_or (as_row (codes "plan") (operands_of 1 words))
+    (as_row (codes "plan --table") (files_with (taken_out (reader_of Table)) 1 words))
+
+abbrev pub check_row : List Text → Option Row
+check_row words = as_row (codes "check") (files_with (reader_of File) 0 words)
+
+abbrev pub replay_row : List Text → Option Row
+replay_row words = as_row (codes "replay") (operands_of 2 words)
+
+abbrev pub version_row : List Text → Option Row
+version_row [] = Some (codes "--version", [])
+version_row _ = None
+
+-- the row that a command is with the words behind it
+abbrev pub row_behind : Text → List Text → Option Row
+row_behind command words =
+    if bytes_eq command (codes "verify") then verify_row words
+    else if bytes_eq command (codes "plan") then plan_row words
+    else if bytes_eq command (codes "check") then check_row words
+    else if bytes_eq command (codes "replay") then replay_row words
+    else if bytes_eq command (codes "--version") then version_row words
     else None
 
 -- the words behind a command ask for help
-abbrev pub asks_help_of : Text → List Text → Bool
-asks_help_of command words =
-    if bytes_eq command (codes "verify") then asks_help_within 1 words
-    else if bytes_eq command (codes "plan") then asks_help_within 1 words
-    else if bytes_eq command (codes "check") then asks_help_beside_file words
+abbrev pub asks_help_behind : Text → List Text → Bool
+asks_help_behind command words =
+    if bytes_eq command (codes "verify") then asks_help_within 1 words || asks_help_with (taken_out (reader_of Sheet)) 1 words
+    else if bytes_eq command (codes "plan") then asks_help_within 1 words || asks_help_with (taken_out (reader_of Table)) 1 words
+    else if bytes_eq command (codes "check") then asks_help_within 0 words || asks_help_with (reader_of File) 0 words
+    else if bytes_eq command (codes "replay") then asks_help_within 2 words
     else false
 
 -- the row that the words are. The first word is the program's name, the second a command of the table
 abbrev pub row_in : List Text → Option Row
 row_in [] = None
 row_in (program ∷ []) = None
-row_in (program ∷ command ∷ others) = option_map (λ files. (command, files)) (files_of command others)
+row_in (program ∷ command ∷ others) = row_behind command others
 
 -- the words ask for help, on the program or on a command
 abbrev pub asks_help : List Text → Bool
 asks_help [] = false
 asks_help (program ∷ []) = false
-asks_help (program ∷ command ∷ others) = is_help command || asks_help_of command others
+asks_help (program ∷ command ∷ others) = is_help command || asks_help_behind command others

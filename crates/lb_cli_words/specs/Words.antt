@@ -1,9 +1,10 @@
 -- The words of a command line: POSIX.1-2024, Base Definitions, section 12.2. `--` ends the options (guideline 10), and
 -- `-` alone is no option (guideline 13). We depart in that options may stand behind operands, as GNU's getopt reads them.
-use Rattle.std.specs.Prelude.{◌==◌, ◌&&◌, ◌||◌, ◌-◌, ℕ, Bool, true, false, not, List, [], ◌∷◌, drop, map, nat_lt, if◌then◌else◌}
-use Rattle.std.specs.Prelude.{Option, Some, None, is_some, option_map, slice_get, codes, bytes_eq, chars}
-use Rattle.std.specs.Option.{option_map_or}
+use Rattle.std.specs.Prelude.{◌==◌, ◌&&◌, ◌||◌, ◌-◌, ℕ, Bool, false, not, List, [], ◌∷◌, ◌++◌, length, map, nat_lt}
+use Rattle.std.specs.Prelude.{if◌then◌else◌, Option, Some, None, is_some, option_map, option_and_then, slice_get, unwrap_or, codes, bytes_eq, chars}
+use Rattle.std.specs.Option.{option_map_or, option_or}
 use Rattle.std.specs.Borrow.{Bor}
+use Rattle.clap.specs.Lexer.{name_and_value, strip_byte}
 
 -- the text of a word, as bytes
 abbrev pub Text : Type 0
@@ -19,8 +20,7 @@ ends_options word = bytes_eq word (codes "--")
 
 -- the first character behind the hyphen (45) of an option. A word that has none is no option
 abbrev pub first_letter : Text → Option ℕ
-first_letter [] = None
-first_letter (first ∷ rest) = if first == 45 then slice_get (chars rest) 0 else None
+first_letter word = option_and_then (λ rest. slice_get (chars rest) 0) (strip_byte 45 word)
 
 -- the word is an option, and no operand
 abbrev pub is_option : Text → Bool
@@ -39,6 +39,14 @@ operands (word ∷ rest) =
     else if is_option word then None
     else option_map (λ others. word ∷ others) (operands rest)
 
+-- these words, where they are n
+abbrev pub exactly : ℕ → List Text → Option (List Text)
+exactly n words = if length words == n then Some words else None
+
+-- the operands, where they are n
+abbrev pub operands_of : ℕ → List Text → Option (List Text)
+operands_of n words = option_and_then (exactly n) (operands words)
+
 -- the first option asks for help, and at most n operands stand before it
 abbrev pub asks_help_within : ℕ → List Text → Bool
 asks_help_within n [] = false
@@ -47,50 +55,63 @@ asks_help_within n (word ∷ rest) =
     else if is_option word then is_help word
     else nat_lt 0 n && asks_help_within (n - 1) rest
 
--- ---- a file that an option names
+-- ---- an option of a command's own
 
--- the word is the option `-f` (102), alone or with more behind it
-abbrev pub is_file_option : Text → Bool
-is_file_option word = option_map_or (λ letter. letter == 102) (first_letter word) false
-
--- what stands in the option's own word behind its letter, with one `=` (61) taken off
-abbrev pub attached : Text → Option Text
-attached [] = None
-attached (first ∷ rest) = Some (if first == 61 then rest else first ∷ rest)
+-- a way to read an option at the front of words: its values, and the words behind it
+abbrev pub Reader : Type 0
+Reader = List Text → Option (List Text × List Text)
 
 -- the word can be an option's value where it stands apart
 abbrev pub is_operand : Text → Bool
 is_operand word = not (ends_options word) && not (is_option word)
 
--- no word is left, but for one that ends the options
-abbrev pub is_end : List Text → Bool
-is_end [] = true
-is_end (word ∷ []) = ends_options word
-is_end _ = false
+-- a value that stands apart
+abbrev pub value_apart : Reader
+value_apart [] = None
+value_apart (value ∷ rest) = if is_operand value then Some (value ∷ [], rest) else None
 
--- the file is in the option's word, or it is the next word
-abbrev pub file_behind : Option Text → List Text → Option Text
-file_behind (Some file) rest = if is_end rest then Some file else None
-file_behind None [] = None
-file_behind None (file ∷ rest) = if is_operand file && is_end rest then Some file else None
+-- a value in the option's own word, or else apart
+abbrev pub value_of : Option Text → Reader
+value_of (Some value) rest = Some (value ∷ [], rest)
+value_of None rest = value_apart rest
 
--- the file that the words name, which are `-f FILE`, `-fFILE` or `-f=FILE`
-abbrev pub option_file : List Text → Option Text
-option_file [] = None
-option_file (word ∷ rest) = if is_file_option word then file_behind (attached (drop 2 word)) rest else None
+-- what stands in an option's word behind its letter, with one `=` (61) taken off
+abbrev pub attached : Text → Option Text
+attached text = if length text == 0 then None else Some (unwrap_or (strip_byte 61 text) text)
 
--- the first word asks for help
-abbrev pub begins_with_help : List Text → Bool
-begins_with_help [] = false
-begins_with_help (word ∷ rest) = is_help word
+-- the option of one letter that has a value: `-f FILE`, `-fFILE` or `-f=FILE`
+abbrev pub lettered : ℕ → Reader
+lettered letter [] = None
+lettered letter (word ∷ rest) =
+    option_and_then (λ behind. value_of (attached behind) rest) (option_and_then (strip_byte letter) (strip_byte 45 word))
 
--- a file is named, and the word behind it asks for help
-abbrev pub asks_help_behind : Option Text → List Text → Bool
-asks_help_behind (Some file) rest = begins_with_help rest
-asks_help_behind None [] = false
-asks_help_behind None (file ∷ rest) = is_operand file && begins_with_help rest
+-- the option of a long name that has a value: `--sheet SHEET` or `--sheet=SHEET`
+abbrev pub named : Text → Reader
+named name [] = None
+named name (word ∷ rest) =
+    let parts = name_and_value word in
+    if bytes_eq parts.0 name then value_of parts.1 rest else None
 
--- the first word asks for help, or the one behind a file that is named
-abbrev pub asks_help_beside_file : List Text → Bool
-asks_help_beside_file [] = false
-asks_help_beside_file (word ∷ rest) = is_help word || (is_file_option word && asks_help_behind (attached (drop 2 word)) rest)
+-- the option of a long name that has no value
+abbrev pub flagged : Text → Reader
+flagged name [] = None
+flagged name (word ∷ rest) = if bytes_eq word name then Some ([], rest) else None
+
+-- the option behind one operand, which stays among the words behind it
+abbrev pub behind_operand : Reader → Reader
+behind_operand option [] = None
+behind_operand option (word ∷ rest) =
+    if is_operand word then option_map (λ given. (given.0, word ∷ given.1)) (option rest) else None
+
+-- the option's values, and the words without it. It stands first, or behind one operand
+abbrev pub taken_out : Reader → Reader
+taken_out option words = option_or (option words) (behind_operand option words)
+
+-- the option's values, and then the operands, where they are n
+abbrev pub files_with : Reader → ℕ → List Text → Option (List Text)
+files_with option n words =
+    option_and_then (λ given. option_map (λ files. given.0 ++ files) (operands_of n given.1)) (option words)
+
+-- the words without the option ask for help
+abbrev pub asks_help_with : Reader → ℕ → List Text → Bool
+asks_help_with option n words = option_map_or (λ given. asks_help_within n given.1) (option words) false

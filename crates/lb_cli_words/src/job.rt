@@ -3,8 +3,16 @@
 pub enum Job<'a> {
     /// `verify <file>`: check the plan in the file against its own sheet.
     Verify { file: &'a str },
+    /// `verify --sheet <sheet> <plan>`: check the plan in the one file for the sheet in the other.
+    VerifyForSheet { sheet: &'a str, plan: &'a str },
     /// `plan <file>`: print a best plan for the sheet in the file.
     Plan { file: &'a str },
+    /// `plan --table <file>`: print a best plan for the sheet in the file, as tables for a reader.
+    PlanTable { file: &'a str },
     /// `check -f <file>`: check the configuration in the file.
     Check { file: &'a str },
+    /// `replay <config> <script>`: replay the script at the backend of the configuration.
+    Replay { config: &'a str, script: &'a str },
+    /// `--version`: print the program's version.
+    Version,
 }

@@ -2,14 +2,17 @@
 //!
 //! Promised of `read_words`: exactly the words that are a row of the table of commands give its job, so long as memory is
 //! there; of the others, exactly those that ask for help give help's text, and the rest the text of a mistake.
-//! The table is `specs/Table.antt`, and how words are read is `specs/Words.antt`. Start at `read_words`.
+//! The table is `specs/Table.antt`, and how words are read is `specs/Words.antt`. The words are read by the table alone
+//! (`table`); `clap` tells the help and what is wrong. Start at `read_words`.
 #![tactic(auto)]
 
-mod check;
+mod commands;
 mod error;
 mod job;
-mod plan;
-mod verify;
+mod operands;
+mod own_option;
+mod table;
+mod word;
 mod words;
 
 pub use clap::Error;

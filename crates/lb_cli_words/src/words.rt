@@ -1,11 +1,12 @@
-ghost use Rattle.std.specs.Prelude.{◌≡◌, ◌⊎◌, Some, IsSome, IsTrue, IfOk, IfErr, option_map, option_and_then};
-ghost use Rattle.clap.specs.Words.{app_of, kind_of, subcommand_rows_of};
+ghost use Rattle.std.specs.Prelude.{◌≡◌, ◌≢◌, ◌⊎◌, ◌∷◌, [], Some, IsSome, IsTrue, IfOk, IfErr};
+ghost use Rattle.clap.specs.Words.{fault_of, kind_of};
 ghost use Rattle.lb_cli_words.specs.Words.{texts};
 ghost use Rattle.lb_cli_words.specs.Table.{row_in, row_of, asks_help};
-ghost use Rattle.lb_cli_words.specs.Clap.{commands_app, row_named};
+ghost use Rattle.lb_cli_words.specs.Clap.{commands_app};
 
-use crate::{Error, ErrorKind, Job, check, plan, verify};
-use clap::{ArgMatches, Command};
+use crate::commands::commands;
+use crate::table::{asks_help, job_of};
+use crate::{Error, ErrorKind, Job};
 use std::alloc::{AllocError, Global};
 
 /// The job that the words ask for. The first word is the program's name, as in `std::env::args`.
@@ -21,36 +22,47 @@ pub fn read_words<'a>(alloc: Global, words: &'a [&'a str]) -> Result<Job<'a>, Er
     ensures help_asked { IfErr result (λ e. IsTrue (asks_help (texts words.now))
         → (kind_of e ≡ ErrorKind.DisplayHelp) ⊎ (kind_of e ≡ ErrorKind.OutOfMemory)) }
 {
-    let matches = commands(alloc)?.try_get_matches_from(words)?;
-    match job(&matches) {
+    match job_of(words) {
         Some(job) => Ok(job),
-        None => unreachable!(),
+        None if asks_help(words) => Err(help(alloc, words)?),
+        None => Err(mistake(alloc, words)?),
     }
 }
 
-/// The job that the program's matches are.
-fn job<'a>(matches: &ArgMatches<'a>) -> Option<Job<'a>>
-    ensures { option_map row_of result ≡ option_and_then row_named (subcommand_rows_of matches.now) }
+/// The help on the command that the words name, or on the program.
+fn help(alloc: Global, words: &[&str]) -> Result<Error, AllocError>
+    ensures { IfOk result (λ e. (kind_of e ≡ ErrorKind.DisplayHelp) ⊎ (kind_of e ≡ ErrorKind.OutOfMemory)) }
 {
-    let (command, given) = matches.subcommand()?;
-    match command {
-        "verify" => verify::job(given),
-        "plan" => plan::job(given),
-        "check" => check::job(given),
-        _ => None,
+    match commands(alloc)?.try_get_matches_from(plain_request(words)) {
+        Err(error) => Ok(error),
+        Ok(_) => unreachable!(),
     }
 }
 
-/// The program's table of commands.
-fn commands<'a>(alloc: Global) -> Result<Command<'a>, AllocError>
-    ensures { IfOk result (λ c. app_of c ≡ commands_app) }
+/// Words that ask for the same help and for nothing else.
+fn plain_request(words: &[&str]) -> &'static [&'static str]
+    ensures { fault_of commands_app (texts result.now) ≡ ErrorKind.DisplayHelp ∷ [] }
 {
-    Command::new(alloc, "stickylb")
-        .about("Plans the moves of a stick table's pins, checks plans, and reads configurations")
-        .arg_required_else_help(true)
-        .subcommand_required(true)
-        .disable_help_subcommand(true)
-        .subcommand(verify::command(alloc)?)?
-        .subcommand(plan::command(alloc)?)?
-        .subcommand(check::command(alloc)?)
+    match words {
+        [_, "verify", ..] => &["stickylb", "verify", "--help"],
+        [_, "plan", ..] => &["stickylb", "plan", "--help"],
+        [_, "replay", ..] => &["stickylb", "replay", "--help"],
+        [_, "check", ..] => &["stickylb", "check", "--help"],
+        _ => &["stickylb", "--help"],
+    }
+}
+
+/// What is wrong with words that are no row of the table and don't ask for help.
+fn mistake<'a>(alloc: Global, words: &'a [&'a str]) -> Result<Error, AllocError>
+    ensures { IfOk result (λ e. kind_of e ≢ ErrorKind.DisplayHelp) }
+{
+    let told = commands(alloc)?.try_get_matches_from(words);
+    if let Some(error) = told.err() {
+        if error.kind() != ErrorKind::DisplayHelp {
+            return Ok(error);
+        }
+    }
+    // To `clap` an option of the program may stand before a command.
+    let mut all = commands(alloc)?;
+    all.error(ErrorKind::ArgumentConflict, "these words don't go together")
 }

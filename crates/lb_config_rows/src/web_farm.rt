@@ -98,7 +98,7 @@ const ELSEWHERE: [u8; 4] = [192, 0, 2, 1];
 
 const PARTNER: [u8; 4] = [198, 51, 100, 7];
 
-fn web_farm(rt: &impl Abort, alloc: Global) -> Config {
+pub(crate) fn web_farm(rt: &impl Abort, alloc: Global) -> Config {
     match read_config(alloc, TEXT) {
         Ok(config) => config,
         Err(_) => panic!(rt; "a fault in the configuration"),

@@ -1,1 +1,12 @@
+pub mod Counts
+pub mod Expired
+pub mod ExpirySteps
+pub mod InstallSteps
+pub mod Leaving
 pub mod Reached
+pub mod Requests
+pub mod Room
+pub mod Served
+pub mod Shown
+pub mod Snapshots
+pub mod Stepped

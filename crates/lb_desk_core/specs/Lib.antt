@@ -1,2 +1,6 @@
+pub mod Acting
 pub mod Core
+pub mod Expiring
+pub mod PlacesPins
 pub mod Parts
+pub mod Requests

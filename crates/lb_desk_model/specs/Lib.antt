@@ -1,4 +1,5 @@
 pub mod Backends
+pub mod Copies
 pub mod Equality
 pub mod Histories
 pub mod Installs

@@ -1,11 +1,12 @@
 ghost use Rattle.std.specs.Prelude.{◌≤◌};
 ghost use Rattle.lb_types.specs.declared.limits.TheConstants.{MAX_COST};
 
-use crate::RuleList;
+use crate::{RuleList, Shared};
 use dual_cert_plan::Plan;
 use lb_types::{Moment, ServerId};
 use pin_set::PinKey;
 use server_state::Change;
+use std::alloc::AllocError;
 
 /// What a request asks of its backend.
 #[derive(Debug, Drop, PartialEq, Eq)]
@@ -20,6 +21,22 @@ pub struct Request {
     pub moment: Moment,
     pub ghost cost_from: { 1 ≤ cost },
     pub ghost cost_to: { cost ≤ MAX_COST },
+}
+
+impl Clone for Request {
+    ghost use Rattle.std.specs.Prelude.{◌≡◌};
+
+    ghost is_clone = { λ request copy. copy ≡ request };
+
+    /// The same request, with the bytes of its key and its rules in memory of its own.
+    fn clone(&self) -> Result<Request, AllocError> {
+        Ok(Request {
+            key: self.key.clone()?,
+            rules: self.rules.clone()?,
+            cost: self.cost,
+            moment: self.moment,
+        })
+    }
 }
 
 /// What a backend is asked for. Each is one step of its machine.
@@ -40,5 +57,28 @@ pub enum Event {
     /// The sheet that a planner needs.
     Snapshot,
     /// The moves of a plan.
-    Install(Plan),
+    Install(Shared<Plan>),
+}
+
+impl Clone for Event {
+    ghost use Rattle.std.specs.Prelude.{◌≡◌};
+    ghost use Rattle.lb_desk_model.specs.Copies.{IsPlainEvent};
+
+    ghost is_clone = { λ event copy. copy ≡ event };
+
+    ghost is_infallible = { IsPlainEvent };
+
+    /// The same event. It costs a copy of a request, or one owner more of a plan; for all others it takes no memory.
+    fn clone(&self) -> Result<Event, AllocError> {
+        Ok(match self {
+            Event::Serve(request) => Event::Serve(request.clone()?),
+            Event::Open(server) => Event::Open(*server),
+            Event::Close(server) => Event::Close(*server),
+            Event::Expire(now) => Event::Expire(*now),
+            Event::Check(server, ok) => Event::Check(*server, *ok),
+            Event::Command(change) => Event::Command(*change),
+            Event::Snapshot => Event::Snapshot,
+            Event::Install(plan) => Event::Install(plan.clone()?),
+        })
+    }
 }

@@ -1,8 +1,8 @@
 //! The machine that one backend is: its events, its replies, and what each event does.
 //!
-//! Promised here is nothing that runs: the definitions in `specs/` say which reply goes with which event and what state
-//! follows. `lb_desk_law` proves what they are worth, `lb_desk_plain` is a machine that meets them. Start at
-//! `specs/Steps.antt`.
+//! Of what runs, copies alone are promised: each equals what it is a copy of. The definitions in `specs/` say which reply
+//! goes with which event and what state follows. `lb_desk_law` proves what they are worth, `lb_desk_plain` is a machine that
+//! meets them. Start at `specs/Steps.antt`.
 #![tactic(auto)]
 
 mod backend;
@@ -11,6 +11,7 @@ mod entry;
 mod event;
 mod reply;
 mod rule_list;
+mod shared;
 mod stand;
 mod table_pin;
 
@@ -20,5 +21,6 @@ pub use entry::Entry;
 pub use event::{Event, Request};
 pub use reply::{Refusal, Reply, ServedAs};
 pub use rule_list::RuleList;
+pub use shared::Shared;
 pub use stand::Stand;
 pub use table_pin::TablePin;

@@ -1,10 +1,12 @@
 ghost use Rattle.std.specs.Prelude.{◌≡◌};
 
+use crate::Shared;
 use cert_check::CheckFault;
 use dual_cert_plan::Sheet;
 use lb_types::ServerId;
 use pin_set::Score;
 use server_state::Checked;
+use std::alloc::AllocError;
 
 /// How a request was served.
 #[derive(Clone, Copy, Debug, PartialEq, Eq, Hash)]
@@ -79,9 +81,33 @@ pub enum Reply {
     /// The change is made.
     Done,
     /// The sheet of the view, with the table's version.
-    Sheet(Sheet),
+    Sheet(Shared<Sheet>),
     /// The plan's moves are made, and this is their score.
     Installed(Score),
     /// Nothing is done.
     Refused(Refusal),
+}
+
+impl Clone for Reply {
+    ghost use Rattle.std.specs.Prelude.{◌≡◌};
+    ghost use Rattle.lb_desk_model.specs.Copies.{IsPlainReply};
+
+    ghost is_clone = { λ reply copy. copy ≡ reply };
+
+    ghost is_infallible = { IsPlainReply };
+
+    /// The same reply. It takes no memory: one owner more of a sheet is a step of a counter, and fails at 2^63 - 1 owners.
+    fn clone(&self) -> Result<Reply, AllocError> {
+        Ok(match self {
+            Reply::Served(server, how) => Reply::Served(*server, *how),
+            Reply::Opened => Reply::Opened,
+            Reply::Closed => Reply::Closed,
+            Reply::Expired(count) => Reply::Expired(*count),
+            Reply::Checked(checked) => Reply::Checked(*checked),
+            Reply::Done => Reply::Done,
+            Reply::Sheet(sheet) => Reply::Sheet(sheet.clone()?),
+            Reply::Installed(score) => Reply::Installed(*score),
+            Reply::Refused(refusal) => Reply::Refused(*refusal),
+        })
+    }
 }

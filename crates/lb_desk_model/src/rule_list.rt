@@ -3,6 +3,7 @@ ghost use Rattle.std.specs.Cmp.Lexicographic.{pointwise, nat_list_eq_equiv};
 ghost use Rattle.std.specs.Cmp.{partial_equiv_from_equiv};
 
 use lb_types::ServerId;
+use std::alloc::AllocError;
 use std::marker::Model;
 
 /// The servers of the `use-server` rules that matched a request, in the rules' order. A server may stand in it twice.
@@ -34,6 +35,19 @@ impl RuleList {
         ensures { result.now ≡ self.now }
     {
         &self.servers
+    }
+}
+
+impl Clone for RuleList {
+    ghost use Rattle.std.specs.Prelude.{◌≡◌};
+
+    ghost is_clone = { λ rules copy. copy ≡ rules };
+
+    /// The same list in memory of its own.
+    fn clone(&self) -> Result<RuleList, AllocError> {
+        Ok(RuleList {
+            servers: Vec::from_slice(*self.servers.allocator(), &self.servers)?,
+        })
     }
 }
 

@@ -7,7 +7,7 @@ ghost use Rattle.lb_desk_plain.specs.Runs.{CountsNoMore};
 use crate::StepFault;
 use crate::same_pins::same_pins;
 use crate::same_servers::same_servers;
-use lb_desk_model::{Event, Reply};
+use lb_desk_model::{Event, Reply, Shared};
 use lb_desk_plain_events::MachineState;
 use std::alloc::Global;
 
@@ -32,7 +32,10 @@ pub(crate) fn act(
         Event::Expire(now) => Ok(state.expire(alloc, *now)?),
         Event::Check(server, ok) => Ok(state.check(*server, *ok)?),
         Event::Command(change) => Ok(state.command(*change)),
-        Event::Snapshot => Ok(Reply::Sheet(state.snapshot(alloc)?)),
+        Event::Snapshot => {
+            let sheet = state.snapshot(alloc)?;
+            Ok(Reply::Sheet(Shared::new(alloc, sheet)?))
+        }
         Event::Install(plan) => Ok(state.install(alloc, plan)?),
     }
 }

@@ -10,10 +10,14 @@ use Rattle.lb_desk_ports.specs.declared.refused.Refused.TheVariants.{Memory, Wor
 abbrev pub entry : Event → Reply → Entry
 entry event reply = record { event = event; reply = reply }
 
--- the count of refusals after a call: one more where it was refused, up to 2^64 - 1
+-- one more, up to 2^64 - 1
+abbrev pub counted : ℕ → ℕ
+counted count = min (count + 1) (2 ^ 64 - 1)
+
+-- the count of refusals after a call: one more where it was refused
 abbrev pub after_call : {A : Type 0} → Result A Refused → ℕ → ℕ
 after_call (Ok answer) count = count
-after_call (Err refused) count = min (count + 1) (2 ^ 64 - 1)
+after_call (Err refused) count = counted count
 
 -- A record has grown by these. It may be lost, and then stays so; where it isn't lost now, it wasn't before.
 abbrev pub Grows : {A : Type 0} → Option (List A) → Option (List A) → List A → Type 0

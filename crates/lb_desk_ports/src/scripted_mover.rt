@@ -1,12 +1,12 @@
-ghost use Rattle.std.specs.Prelude.{◌≡◌, ◌++◌, [], IfOk};
-ghost use Rattle.lb_desk_ports.specs.Movers.{snapshot_entries, PlansNow, IsPlanFor};
+ghost use Rattle.std.specs.Prelude.{◌≡◌, ◌++◌, []};
+ghost use Rattle.lb_desk_ports.specs.Movers.{snapshot_entries, installing_entries, PlansNow, IsPlanFor};
 
 use crate::log::Log;
 use crate::{Installing, Mover, Refused};
 use dual_cert_plan::{Plan, Sheet};
-use lb_desk_model::{Entry, Event, Reply};
+use lb_desk_model::{Entry, Event, Reply, Shared};
 use pin_set::Score;
-use std::alloc::{AllocError, Global};
+use std::alloc::Global;
 
 /// What a `ScriptedMover` answers.
 #[derive(Clone, Copy, Debug, PartialEq, Eq)]
@@ -25,21 +25,29 @@ pub struct MoverScript<'a> {
 pub struct ScriptedMover<'a> {
     script: MoverScript<'a>,
     alloc: Global,
-    sheet: Sheet,
-    plan: Plan,
+    sheet: Shared<Sheet>,
+    plan: Shared<Plan>,
     log: Log,
+    planned_now: u64,
     ghost fits: { IsPlanFor sheet plan },
 }
 
 impl<'a> ScriptedMover<'a> {
     /// A mover that nobody called yet, with its sheet and a plan for that.
-    pub fn new(alloc: Global, sheet: Sheet, plan: Plan, script: MoverScript<'a>) -> Self
+    pub fn new(
+        alloc: Global,
+        sheet: Shared<Sheet>,
+        plan: Shared<Plan>,
+        script: MoverScript<'a>,
+    ) -> Self
         requires { IsPlanFor sheet plan }
         ensures entries { ⟦<ScriptedMover<'a> as Mover<()>>⟧.entries result ≡ [] }
         ensures refusals { ⟦<ScriptedMover<'a> as Mover<()>>⟧.refusals result ≡ 0 }
+        ensures planned_now { ⟦<ScriptedMover<'a> as Mover<()>>⟧.planned_now result ≡ 0 }
     {
         ScriptedMover {
             log: Log::new(alloc, script.refusing),
+            planned_now: 0,
             script,
             alloc,
             sheet,
@@ -61,9 +69,17 @@ impl<'a> ScriptedMover<'a> {
         self.log.refusals
     }
 
+    /// How often it was asked to plan while everyone else waits.
+    pub fn planned_now(&self) -> u64
+        ensures { result ≡ ⟦<ScriptedMover<'a> as Mover<()>>⟧.planned_now self.now }
+    {
+        self.planned_now
+    }
+
     // The answer to the next plan.
     fn next_install(&mut self) -> Installing
-        ensures { self.new.log ≡ self.old.log }
+        ensures log { self.new.log ≡ self.old.log }
+        ensures planned_now { self.new.planned_now ≡ self.old.planned_now }
     {
         match self.script.installs.split_first() {
             Some((first, rest)) => {
@@ -74,23 +90,36 @@ impl<'a> ScriptedMover<'a> {
         }
     }
 
-    fn take_sheet(&mut self) -> Result<Sheet, Refused>
+    fn take_sheet(&mut self) -> Result<Shared<Sheet>, Refused>
         ensures entries { self.new.log.entries.items ≡ self.old.log.entries.items ++ snapshot_entries result }
         ensures refusals { self.new.log.refusals ≡ self.old.log.refusals }
+        ensures planned_now { self.new.planned_now ≡ self.old.planned_now }
     {
-        let kept = copy_of_sheet(self.alloc, &self.sheet)?;
-        let given = copy_of_sheet(self.alloc, &self.sheet)?;
+        let kept = self.sheet.clone()?;
+        let given = self.sheet.clone()?;
         self.log.add(Event::Snapshot, Reply::Sheet(kept))?;
         Ok(given)
+    }
+
+    fn take_plan(&mut self, plan: Plan) -> Result<Installing, Refused>
+        ensures entries { self.new.log.entries.items ≡ self.old.log.entries.items ++ installing_entries plan result }
+        ensures refusals { self.new.log.refusals ≡ self.old.log.refusals }
+        ensures planned_now { self.new.planned_now ≡ self.old.planned_now }
+    {
+        let installing = self.next_install();
+        let plan = Shared::new(self.alloc, plan)?;
+        self.log.add(Event::Install(plan), installing.reply())?;
+        Ok(installing)
     }
 
     // Both entries, or none.
     fn move_now(&mut self) -> Result<Score, Refused>
         ensures entries { PlansNow self.old.log.entries.items self.new.log.entries.items result }
         ensures refusals { self.new.log.refusals ≡ self.old.log.refusals }
+        ensures planned_now { self.new.planned_now ≡ self.old.planned_now }
     {
-        let sheet = copy_of_sheet(self.alloc, &self.sheet)?;
-        let plan = copy_of_plan(self.alloc, &self.plan)?;
+        let sheet = self.sheet.clone()?;
+        let plan = self.plan.clone()?;
         self.log.may_add()?;
         self.log.may_add()?;
         self.log.entries.reserve(2)?;
@@ -111,41 +140,24 @@ impl<R> Mover<R> for ScriptedMover<'_> {
 
     ghost refusals = { λ mover. mover.log.refusals };
 
-    fn snapshot(&mut self, _rt: &R) -> Result<Sheet, Refused> {
+    ghost planned_now = { λ mover. mover.planned_now };
+
+    fn snapshot(&mut self, _rt: &R) -> Result<Shared<Sheet>, Refused> {
         let answer = self.take_sheet();
         self.log.note(&answer);
         answer
     }
 
     fn install(&mut self, _rt: &R, plan: Plan) -> Result<Installing, Refused> {
-        let installing = self.next_install();
-        let answer = match self.log.add(Event::Install(plan), installing.reply()) {
-            Ok(()) => Ok(installing),
-            Err(refused) => Err(refused),
-        };
+        let answer = self.take_plan(plan);
         self.log.note(&answer);
         answer
     }
 
     fn plan_now(&mut self, _rt: &R) -> Result<Score, Refused> {
+        self.planned_now = self.planned_now.saturating_add(1);
         let answer = self.move_now();
         self.log.note(&answer);
         answer
     }
-}
-
-fn copy_of_sheet(alloc: Global, sheet: &Sheet) -> Result<Sheet, AllocError>
-    ensures { IfOk result (λ copy. copy ≡ sheet.now) }
-{
-    let servers = Vec::from_slice(alloc, sheet.servers())?;
-    let groups = Vec::from_slice(alloc, sheet.groups())?;
-    Ok(Sheet::new(sheet.version(), servers, groups))
-}
-
-fn copy_of_plan(alloc: Global, plan: &Plan) -> Result<Plan, AllocError>
-    ensures { IfOk result (λ copy. copy ≡ plan.now) }
-{
-    let servers = Vec::from_slice(alloc, plan.servers())?;
-    let rows = Vec::from_slice(alloc, plan.rows())?;
-    Ok(Plan::new(plan.version(), servers, rows))
 }

@@ -2,7 +2,7 @@
 
 use crate::farms::server;
 use dual_cert::read_plan;
-use lb_desk_model::{Event, Refusal, Reply, Request, RuleList, ServedAs};
+use lb_desk_model::{Event, Refusal, Reply, Request, RuleList, ServedAs, Shared};
 use lb_types::Moment;
 use pin_set::{KeyText, PinKey};
 use rise_fall::Flip;
@@ -74,7 +74,10 @@ impl Ask {
                 setting,
             })),
             Ask::Snapshot => Ok(Event::Snapshot),
-            Ask::Install(text) => Ok(Event::Install(read_plan(alloc, text.as_bytes())?)),
+            Ask::Install(text) => {
+                let plan = read_plan(alloc, text.as_bytes())?;
+                Ok(Event::Install(Shared::new(alloc, plan)?))
+            }
         }
     }
 }

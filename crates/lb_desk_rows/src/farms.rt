@@ -4,9 +4,11 @@ ghost use Rattle.lb_types.specs.Names.{name_of};
 
 use lb_desk_model::{Backend, BackendServer, Balance, TableSettings};
 use lb_desk_plain::Machine;
+use lb_desk_step::Desk;
 use lb_types::{Name, ServerId};
 use server_state::{AdminState, CheckSettings, ServerSettings};
 use std::alloc::Global;
+use std::hash::BuildHasher;
 use std::test::Fail;
 
 pub(crate) fn server(at: u8) -> ServerId {
@@ -88,12 +90,26 @@ pub(crate) const TWO: Farm = Farm {
 impl Farm {
     /// The machine at the opening of this backend.
     pub(crate) fn machine(self, alloc: Global) -> Result<Machine, Fail> {
+        Ok(Machine::open(alloc, &self.backend(alloc)?)?)
+    }
+
+    /// A desk at the opening of this backend, whose journal keeps so many entries.
+    pub(crate) fn desk<S: BuildHasher + Drop>(
+        self,
+        alloc: Global,
+        journal: u32,
+        hasher: S,
+    ) -> Result<Desk<S>, Fail> {
+        let backend = self.backend(alloc)?;
+        Ok(Desk::open(alloc, &backend, journal.max(1), hasher)?)
+    }
+
+    fn backend(self, alloc: Global) -> Result<Backend, Fail> {
         let table = self.table();
-        let backend = match self.c {
-            Some(c) => self.of_three(alloc, c, table)?,
-            None => self.of_two(alloc, table)?,
-        };
-        Ok(Machine::open(alloc, &backend)?)
+        match self.c {
+            Some(c) => self.of_three(alloc, c, table),
+            None => self.of_two(alloc, table),
+        }
     }
 
     fn table(self) -> Option<TableSettings> {

@@ -4,11 +4,12 @@ use cert_check::CheckFault;
 use dual_cert_plan::Plan;
 use lb_desk_model::{
     Backend, BackendServer, Balance, Entry, Event, Refusal, Reply, Request, RuleList, ServedAs,
-    TableSettings,
+    Shared, TableSettings,
 };
 use lb_types::{Moment, Name, ServerId};
 use pin_set::{KeyText, PinKey};
 use server_state::{AdminState, ServerSettings};
+use std::alloc::Global;
 use std::test::Fail;
 
 /// Refusals with their numbers.
@@ -85,9 +86,18 @@ fn what_is_made_gives_its_parts_back(rt: HostRuntime) -> Result<(), Fail> {
 #[test]
 fn events_are_equal_where_they_say_the_same(rt: HostRuntime) -> Result<(), Fail> {
     let [a, b] = [ServerId::new(0), ServerId::new(1)];
-    let first = Event::Install(Plan::new(1, Vec::new(rt.alloc()), Vec::new(rt.alloc())));
-    let same = Event::Install(Plan::new(1, Vec::new(rt.alloc()), Vec::new(rt.alloc())));
-    let later = Event::Install(Plan::new(2, Vec::new(rt.alloc()), Vec::new(rt.alloc())));
+    let first = install(
+        rt.alloc(),
+        Plan::new(1, Vec::new(rt.alloc()), Vec::new(rt.alloc())),
+    )?;
+    let same = install(
+        rt.alloc(),
+        Plan::new(1, Vec::new(rt.alloc()), Vec::new(rt.alloc())),
+    )?;
+    let later = install(
+        rt.alloc(),
+        Plan::new(2, Vec::new(rt.alloc()), Vec::new(rt.alloc())),
+    )?;
     let asked = asked_by(vec![in rt.alloc(); b, a]?);
     let turned = asked_by(vec![in rt.alloc(); a, b]?);
     let cases = [
@@ -103,6 +113,10 @@ fn events_are_equal_where_they_say_the_same(rt: HostRuntime) -> Result<(), Fail>
         assert_eq!(rt; equal, wanted, "{events}");
     }
     Ok(())
+}
+
+fn install(alloc: Global, plan: Plan) -> Result<Event, Fail> {
+    Ok(Event::Install(Shared::new(alloc, plan)?))
 }
 
 fn asked_by(rules: Vec<ServerId>) -> Event {

@@ -1,6 +1,7 @@
 //! A row, and how it is played.
 
 use crate::asked::{Ask, Said, in_short};
+use crate::desks::play_at_desks;
 use crate::farms::{Farm, TWO, server};
 use lb_desk_model::{Event, Reply};
 use lb_desk_plain::Machine;
@@ -34,7 +35,7 @@ pub(crate) const ROW: Row = Row {
     serving: &[],
 };
 
-/// Takes each row's events in turn, and compares the replies. Then it takes them in one run.
+/// Takes each row's events in turn, and compares the replies. Then it takes them in one run, and at desks.
 pub(crate) fn play(rt: &impl Abort, alloc: Global, rows: &[Row]) -> Result<(), Fail> {
     for row in rows {
         let mut events = Vec::new(alloc);
@@ -50,6 +51,7 @@ pub(crate) fn play(rt: &impl Abort, alloc: Global, rows: &[Row]) -> Result<(), F
         assert!(rt; ends_as(row, &copy), "{}", row.name);
         let replies = row.farm.machine(alloc)?.run(alloc, &events)?;
         assert!(rt; are_said(&replies, row.steps), "{} as a run", row.name);
+        play_at_desks(rt, alloc, row)?;
     }
     Ok(())
 }

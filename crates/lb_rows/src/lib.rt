@@ -10,3 +10,5 @@ mod broken_files;
 mod brute_force;
 #[cfg(test)]
 mod plan_jobs;
+#[cfg(test)]
+mod sheet_jobs;

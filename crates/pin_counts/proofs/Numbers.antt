@@ -11,7 +11,7 @@ use Rattle.std.proofs.lemmas.List.Sums.{sum_by-cons}
 use Rattle.std.proofs.lemmas.Map.{NonePasses}
 use Rattle.std.proofs.lemmas.Map.Entries.{none_past_head}
 use Rattle.std.proofs.lemmas.Map.Keys.{IsDistinct-from_sorted, sorted_tail}
-use Rattle.pin_counts.specs.Counts.{count_of, one_if_same, HasOneMore}
+use Rattle.pin_counts.specs.Counts.{count_of, one_if_same, HasMore, HasOneMore}
 
 -- what an entry adds to the number of the kinds that pass
 abbrev pub weight : {K : Type 0} → (K → Bool) → K × ℕ → ℕ
@@ -76,21 +76,27 @@ module _ {K : Type 0} (same : K → K → Bool) (cmp : K → K → Ordering) (to
     ap (λ b. cond b 1 0) (is q kind ∙ ((eq_by_cmp_equiv total).symm q kind ∙ miss)),
   )
 
-  more_at : (kind q : K) (w : Option ℕ) (old new : List (K × ℕ)) (b : Bool) → is_at (cmp kind) q ≡ b → Updated cmp kind w old new
-      → unwrap_or w 0 ≡ number_at cmp old kind + 1 → number_at cmp new q ≡ number_at cmp old q + one_if_same same q kind
-  more_at kind q w old new true hit updated amount = let at = at_kind kind q w old new updated hit in omega (arith, at.0, at.1, at.2)
-  more_at kind q w old new false miss updated amount = let at = elsewhere kind q w old new updated miss in omega (arith, at.0, at.1)
+  more_at : (kind q : K) (n : ℕ) (w : Option ℕ) (old new : List (K × ℕ)) (b : Bool) → is_at (cmp kind) q ≡ b → Updated cmp kind w old new
+      → unwrap_or w 0 ≡ number_at cmp old kind + n → number_at cmp new q ≡ number_at cmp old q + cond (same q kind) n 0
+  more_at kind q n w old new true hit updated amount =
+      let at = at_kind kind q w old new updated hit in
+      let alike : cond (same q kind) n 0 ≡ n = ap (λ b. cond b n 0) (is q kind ∙ ((eq_by_cmp_equiv total).symm q kind ∙ hit)) in
+      omega (arith, at.0, at.1)
+  more_at kind q n w old new false miss updated amount =
+      let at = elsewhere kind q w old new updated miss in
+      let other : cond (same q kind) n 0 ≡ 0 = ap (λ b. cond b n 0) (is q kind ∙ ((eq_by_cmp_equiv total).symm q kind ∙ miss)) in
+      omega (arith, at.0)
 
   fewer_at : (kind q : K) (w : Option ℕ) (old new : List (K × ℕ)) (b : Bool) → is_at (cmp kind) q ≡ b → Updated cmp kind w old new
       → unwrap_or w 0 + 1 ≡ number_at cmp old kind → number_at cmp old q ≡ number_at cmp new q + one_if_same same q kind
   fewer_at kind q w old new true hit updated amount = let at = at_kind kind q w old new updated hit in omega (arith, at.0, at.1, at.2)
   fewer_at kind q w old new false miss updated amount = let at = elsewhere kind q w old new updated miss in omega (arith, at.0, at.1)
 
-  -- one more is written at the kind
-  pub one_more : (kind : K) (w : Option ℕ) (old new : List (K × ℕ)) → IsStrictlySortedBy cmp (keys_of old) → IsStrictlySortedBy cmp (keys_of new)
-      → Updated cmp kind w old new → unwrap_or w 0 ≡ number_at cmp old kind + 1 → HasOneMore same old kind new
-  one_more kind w old new rises rises_on updated amount q =
-      let step = more_at kind q w old new (is_at (cmp kind) q) refl updated amount in
+  -- so many more are written at the kind
+  pub many_more : (kind : K) (n : ℕ) (w : Option ℕ) (old new : List (K × ℕ)) → IsStrictlySortedBy cmp (keys_of old) → IsStrictlySortedBy cmp (keys_of new)
+      → Updated cmp kind w old new → unwrap_or w 0 ≡ number_at cmp old kind + n → HasMore same old kind n new
+  many_more kind n w old new rises rises_on updated amount q =
+      let step = more_at kind q n w old new (is_at (cmp kind) q) refl updated amount in
       omega (arith, step, count q old rises, count q new rises_on)
 
   -- one fewer is written at the kind, or it leaves where there was one

@@ -13,6 +13,10 @@ module _ {K : Type 0} where
   abbrev pub one_if_same : (K → K → Bool) → K → K → ℕ
   one_if_same same a b = if same a b then 1 else 0
 
+  -- of this kind there are so many more by the new counts than by the old ones, and of each other kind as many
+  abbrev pub HasMore : (K → K → Bool) → List (K × ℕ) → K → ℕ → List (K × ℕ) → Type 0
+  HasMore same old kind more new = (k : K) → count_of same new k ≡ count_of same old k + (if same k kind then more else 0)
+
   -- of this kind there is one more by the new counts than by the old ones, and of each other kind as many
   abbrev pub HasOneMore : (K → K → Bool) → List (K × ℕ) → K → List (K × ℕ) → Type 0
   HasOneMore same old kind new = (k : K) → count_of same new k ≡ count_of same old k + one_if_same same k kind

@@ -1,6 +1,6 @@
 ghost use Rattle.std.specs.Prelude.{◌≡◌, ℕ, ◌+◌, ◌^◌, ◌<◌, ◌==◌, [], All, IsOk, OnOk, OnErr, length};
 ghost use Rattle.std.specs.Map.Iter.{ShowsInOrder, deref_pair};
-ghost use Rattle.pin_counts.specs.Counts.{count_of, HasOneMore, HasChanged, AreRising};
+ghost use Rattle.pin_counts.specs.Counts.{count_of, HasMore, HasOneMore, HasChanged, AreRising};
 
 use std::alloc::{AllocError, Global};
 use std::collections::BTreeMap;
@@ -51,11 +51,23 @@ impl<K: Ord + Copy> Counts<K> {
         ensures err { OnErr result (self.new ≡ self.old) }
         ensures no_memory { 0 < count_of K.eq self.old kind → IsOk result }
     {
+        self.add_many(kind, 1)
+    }
+
+    /// Counts so many more of this kind, at least one. It may need memory where there is none of it so far; a refusal changes
+    /// nothing.
+    pub fn add_many(&mut self, kind: K, more: u64) -> Result<(), AllocError>
+        requires some { 0 < more }
+        requires fits { count_of K.eq self.old kind + more < 2 ^ 64 }
+        ensures ok { OnOk result (HasMore K.eq self.old kind more self.new) }
+        ensures err { OnErr result (self.new ≡ self.old) }
+        ensures no_memory { 0 < count_of K.eq self.old kind → IsOk result }
+    {
         if let Some(count) = self.counts.get_mut(&kind) {
-            *count += 1;
+            *count += more;
             return Ok(());
         }
-        self.counts.insert(kind, 1)?;
+        self.counts.insert(kind, more)?;
         Ok(())
     }
 

@@ -18,7 +18,7 @@ use Rattle.pin_set.specs.Rows.{AreGroupsOf, count_in}
 use Rattle.cert_check_law.proofs.Agreeing.{same_kind_is, length-ones}
 use Rattle.cert_check_law.proofs.Weights.{sum_by-same, sum_by-weights}
 use Rattle.pin_groups.specs.declared.counted.PinCount.{PinCount}
-use Rattle.pin_groups.specs.Counts.{counted_kind, HasCounts, OneSheetForAView}
+use Rattle.pin_groups.specs.Counts.{AreGroupsOfCounts, HasCounts, OneSheetForAView, counted_kind}
 use Rattle.pin_groups.specs.Rising.{Before, AreRising}
 
 -- place, wanted servers and cost stand in a kind, the wanted servers where the permitted ones would be
@@ -51,8 +51,7 @@ sum-counts usable servers counts view f has =
 -- groups with as many pins of each kind as the counts are those of the view
 pub groups-counted : (usable : ℕ) (servers : List ViewServer) (counts : List PinCount) (view : ViewParts) (groups : List Group)
     → HasCounts usable servers counts view
-    → ((kind : PinKind) → count_in groups kind ≡ sum_by (λ c. cond (same_kind kind (counted_kind usable c)) c.count 0) counts)
-    → AreGroupsOf groups (kinds_of view)
+    → AreGroupsOfCounts usable groups counts → AreGroupsOf groups (kinds_of view)
 groups-counted usable servers counts view groups has counted kind =
     let f : PinKind → ℕ = λ k. cond (same_kind kind k) 1 0 in
     let g : PinKind → ℕ = λ k. f (made_kind usable k) in
@@ -62,7 +61,7 @@ groups-counted usable servers counts view groups has counted kind =
     ∙ (sum-counts usable servers counts view g has
     ∙ (sum_by-same (λ (c : PinCount). c.count * g (wanted_count c)) (λ (c : PinCount). cond (same_kind kind (counted_kind usable c)) c.count 0) counts
     (λ c. times_test (same_kind kind (counted_kind usable c)) c.count)
-    ∙ sym (counted kind)))
+    ∙ counted kind))
 
 -- a view's counts are together its pins
 pub counts-few : (usable : ℕ) (servers : List ViewServer) (counts : List PinCount) (view : ViewParts) → IsView view → HasCounts usable servers counts view
@@ -81,7 +80,7 @@ abbrev pub tally : ℕ → PinKind → PinCount → ℕ
 tally usable kind c = cond (same_kind kind (counted_kind usable c)) c.count 0
 
 abbrev pub TalliedTo : ℕ → List PinCount → ℕ → List Group → Type 0
-TalliedTo usable counts i groups = (kind : PinKind) → count_in groups kind ≡ sum_by (tally usable kind) (take i counts)
+TalliedTo usable counts i groups = (kind : PinKind) → sum_by (tally usable kind) (take i counts) ≡ count_in groups kind
 
 tally-le : (b : Bool) (n : ℕ) → cond b n 0 ≤ n
 tally-le true n = omega arith

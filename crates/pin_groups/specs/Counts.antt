@@ -1,11 +1,13 @@
 -- Views that are known by how many pins have each place, wanted servers and cost.
 use Rattle.std.specs.Prelude.{◌≡◌, ℕ, ◌&&◌, Option, List, sum_by, count_by, if◌then◌else◌, ◌==◌}
+use Rattle.lb_types_pins.specs.declared.kind.Group.{Group}
 use Rattle.lb_types_pins.specs.declared.kind.PinKind.{PinKind}
-use Rattle.lb_types_pins.specs.Kinds.{same_place}
+use Rattle.lb_types_pins.specs.Kinds.{same_kind, same_place}
 use Rattle.dual_cert_plan.specs.Sheets.{SheetParts, IsSheet}
 use Rattle.pin_set.specs.declared.pin.Pin.{Pin}
 use Rattle.pin_set.specs.declared.view.ViewServer.{ViewServer}
 use Rattle.pin_set.specs.Pins.{permitted}
+use Rattle.pin_set.specs.Rows.{count_in}
 use Rattle.pin_set.specs.Views.{ViewParts, IsView}
 use Rattle.cert_check_law.specs.Sheets.{StandsFor}
 use Rattle.pin_groups.specs.declared.counted.PinCount.{PinCount}
@@ -34,6 +36,11 @@ pub record AreOfSomeView (usable : ℕ) (servers : List ViewServer) (counts : Li
 -- the kind of the pins that are counted, where these servers are usable
 abbrev pub counted_kind : ℕ → PinCount → PinKind
 counted_kind usable c = record { place = c.place; permitted = permitted c.want usable; cost = c.cost }
+
+-- the groups have as many pins of each kind as the counts, where these servers are usable
+abbrev pub AreGroupsOfCounts : ℕ → List Group → List PinCount → Type 0
+AreGroupsOfCounts usable groups counts = (kind : PinKind)
+    → sum_by (λ c. if same_kind kind (counted_kind usable c) then c.count else 0) counts ≡ count_in groups kind
 
 -- two sheets of one version that stand for one view are the same
 abbrev pub OneSheetForAView : Type 0

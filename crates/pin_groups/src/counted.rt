@@ -1,12 +1,9 @@
-ghost use Rattle.std.specs.Prelude.{◌≡◌, ◌^◌, ◌≤◌, IfOk, sum_by, if◌then◌else◌};
+ghost use Rattle.std.specs.Prelude.{◌≡◌, ◌^◌, ◌≤◌, IfOk, sum_by};
 ghost use Rattle.lb_types.specs.declared.limits.TheConstants.{MAX_PINS};
-ghost use Rattle.lb_types_pins.specs.declared.kind.PinKind.{PinKind as AnyKind};
-ghost use Rattle.lb_types_pins.specs.Kinds.{same_kind};
 ghost use Rattle.dual_cert_plan.specs.Sheets.{SheetParts, IsSheet};
-ghost use Rattle.pin_set.specs.Rows.{count_in};
 ghost use Rattle.pin_set.specs.Views.{ViewParts};
 ghost use Rattle.cert_check_law.specs.Sheets.{StandsFor};
-ghost use Rattle.pin_groups.specs.Counts.{counted_kind, HasCounts, AreOfSomeView, OneSheetForAView};
+ghost use Rattle.pin_groups.specs.Counts.{AreGroupsOfCounts, HasCounts, AreOfSomeView, OneSheetForAView, counted_kind};
 ghost use Rattle.pin_groups.specs.Rising.{AreRising};
 
 use crate::listed::listed_servers;
@@ -44,6 +41,7 @@ pub fn sheet_of(
     ensures lawful { IfOk result (λ sheet. IsSheet sheet) }
     ensures exact { IfOk result (λ sheet. (view : ViewParts) → HasCounts usable servers.now counts.now view
         → StandsFor sheet view) }
+    ensures groups { IfOk result (λ sheet. AreGroupsOfCounts usable sheet.groups counts.now) }
 {
     let listed = listed_servers(alloc, usable, servers)?;
     let groups = groups_counted(alloc, usable, counts)?;
@@ -57,8 +55,7 @@ fn groups_counted(
 ) -> Result<Vec<Group>, AllocError>
     requires { sum_by (λ c. c.count) counts.now ≤ MAX_PINS }
     ensures rising { IfOk result (λ groups. AreRising groups.items) }
-    ensures counts { IfOk result (λ groups. (kind : AnyKind) → count_in groups.items kind
-        ≡ sum_by (λ c. if same_kind kind (counted_kind usable c) then c.count else 0) counts.now) }
+    ensures counts { IfOk result (λ groups. AreGroupsOfCounts usable groups.items counts.now) }
 {
     let mut groups = Vec::new(alloc);
     for counted in counts {

@@ -1,3 +1,4 @@
 pub mod Handing
+pub mod Passing
 pub mod Shared
 pub mod Taking

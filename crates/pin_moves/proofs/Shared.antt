@@ -12,10 +12,10 @@ use Rattle.dual_cert_plan.specs.Plans.{groups_of, pins_in_rows}
 use Rattle.dual_cert_plan.proofs.OwnSheet.{pins-groups_of}
 use Rattle.pin_set.specs.Rows.{is_move, sent}
 use Rattle.pin_groups.specs.declared.counted.PinCount.{PinCount}
-use Rattle.pin_groups.specs.Counts.{counted_kind, counted_with}
+use Rattle.pin_groups.specs.Counts.{AreGroupsOfCounts, counted_kind, counted_with}
 use Rattle.pin_moves.specs.declared.a_move.Move.{Move}
 use Rattle.pin_moves.specs.Leftovers.{AreInOrder, GoesBehind}
-use Rattle.pin_moves.specs.Moves.{AreRisingCounts, AreGroupsOfCounts, counted_pins, moved_pins, move_before}
+use Rattle.pin_moves.specs.Moves.{AreRisingCounts, counted_pins, moved_pins, move_before}
 
 -- the move of so many counted pins to a place
 abbrev pub move_of : PinCount → Option ℕ → ℕ → Move

@@ -1,3 +1,4 @@
 pub mod Handed
 pub mod Leftovers
 pub mod Moves
+pub mod Passes

@@ -1,12 +1,10 @@
 -- Moves of pins that are counted by place, wanted servers and cost, as a plan says that pins of each kind move.
 use Rattle.std.specs.Prelude.{◌≡◌, ℕ, ◌+◌, ◌≤◌, Bool, true, ◌&&◌, ◌||◌, ◌==◌, Option, List, All, AllPairs, sum_by, if◌then◌else◌}
 use Rattle.lb_types_pins.specs.declared.kind.PinKind.{PinKind}
-use Rattle.lb_types_pins.specs.declared.kind.Group.{Group}
 use Rattle.lb_types_pins.specs.Kinds.{same_place, same_kind, place_before, kind_before}
 use Rattle.pin_set.specs.Pins.{permitted}
-use Rattle.pin_set.specs.Rows.{is_move, count_in}
+use Rattle.pin_set.specs.Rows.{is_move}
 use Rattle.pin_groups.specs.declared.counted.PinCount.{PinCount}
-use Rattle.pin_groups.specs.Counts.{counted_kind}
 use Rattle.pin_moves.specs.declared.a_move.Move.{Move}
 
 -- place, wanted servers and cost: a kind that has the wanted servers where a plan's kind has the permitted ones
@@ -41,11 +39,6 @@ moved_to usable moves kind to = sum_by (λ m. if is_move kind to (moved_kind usa
 pub record AreRisingCounts (counts : List PinCount) : Type 0 where
   pub rising : AllPairs (λ a b. kind_before (counted_pins a) (counted_pins b) ≡ true) counts
   pub counted : All (λ c. 1 ≤ c.count) counts
-
--- the groups have as many pins of each kind as the counts, where these servers are usable
-abbrev pub AreGroupsOfCounts : ℕ → List Group → List PinCount → Type 0
-AreGroupsOfCounts usable groups counts = (kind : PinKind)
-    → sum_by (λ c. if same_kind kind (counted_kind usable c) then c.count else 0) counts ≡ count_in groups kind
 
 -- how many pins of this place, these wanted servers and this cost go to this place
 abbrev pub going : List Move → Option ℕ → ℕ → ℕ → Option ℕ → ℕ

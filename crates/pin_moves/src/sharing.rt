@@ -5,9 +5,9 @@ ghost use Rattle.lb_types_pins.specs.declared.kind.Row.{Row as AnyRow};
 ghost use Rattle.lb_types_pins.specs.Kinds.{place_before, kind_before, row_before, same_kind};
 ghost use Rattle.dual_cert_plan.specs.Plans.{groups_of, pins_in_rows};
 ghost use Rattle.pin_set.specs.Rows.{is_move, sent};
-ghost use Rattle.pin_groups.specs.Counts.{counted_kind, counted_with};
+ghost use Rattle.pin_groups.specs.Counts.{AreGroupsOfCounts, counted_kind, counted_with};
 ghost use Rattle.pin_moves.specs.Leftovers.{AreInOrder, GoesBehind};
-ghost use Rattle.pin_moves.specs.Moves.{AreRisingCounts, AreGroupsOfCounts, counted_pins, moved_pins, move_before, moved_with, moved_to};
+ghost use Rattle.pin_moves.specs.Moves.{AreRisingCounts, counted_pins, moved_pins, move_before, moved_with, moved_to};
 
 use crate::Move;
 use dual_cert_plan::Plan;

@@ -1,5 +1,5 @@
 -- Rows have as many pins of each kind as counts, where they have as many of the kinds of both.
-use Rattle.std.proofs.Common.{◌≡◌, ◌⊎◌, ℕ, suc, ◌+◌, ◌<◌, Bool, true, false, cond, List, [], ◌∷◌, length, get_or, refl, sym, subst, ◌∙◌, inl, inr, arith}
+use Rattle.std.proofs.Common.{◌≡◌, ◌⊎◌, ℕ, suc, ◌+◌, ◌<◌, Bool, true, false, cond, Option, List, [], ◌∷◌, length, get_or, refl, sym, subst, ◌∙◌, inl, inr, arith}
 use Rattle.std.specs.List.{sum_by}
 use Rattle.std.proofs.lemmas.Bool.{cases_eq}
 use Rattle.std.proofs.lemmas.List.Elements.{at_read}
@@ -11,8 +11,9 @@ use Rattle.lb_types_pins.proofs.Order.{same_kind-true}
 use Rattle.dual_cert_plan.specs.Plans.{groups_of, pins_in_rows}
 use Rattle.dual_cert_plan.proofs.OwnSheet.{pins-groups_of}
 use Rattle.pin_groups.specs.declared.counted.PinCount.{PinCount}
-use Rattle.pin_groups.specs.Counts.{counted_kind}
-use Rattle.pin_moves.specs.Moves.{AreGroupsOfCounts}
+use Rattle.pin_set.specs.declared.pin.Pin.{Pin}
+use Rattle.pin_groups.specs.Counts.{AreGroupsOfCounts, counted_kind, counted_with, pins_with}
+use Rattle.pin_moves.specs.Moves.{counted_pins, pins_of}
 
 abbrev of_kind : {X : Type 0} → (X → PinKind) → (X → ℕ) → PinKind → X → ℕ
 of_kind key count kind x = cond (same_kind kind (key x)) (count x) 0
@@ -57,6 +58,42 @@ all_counted usable rows counts in_rows in_counts kind = counted ∙ sym (pins-gr
         | inl no_count ↦ no_count ∙ sym no_row
       ]
     ]
+
+-- ---- pins
+
+some_of : {X : Type 0} (xs : List X) (k : ℕ) → k < length xs → X
+some_of [] k below = absurd (omega arith)
+some_of (x ∷ xs) k below = x
+
+abbrev pub PinsCounted : List Pin → List PinCount → Option ℕ → ℕ → ℕ → Type 0
+PinsCounted pins counts place want cost = pins_with pins place want cost ≡ counted_with counts place want cost
+
+pub all_pins_counted : (pins : List Pin) (counts : List PinCount)
+    → ((k : ℕ) (d : Pin) → k < length pins → PinsCounted pins counts (get_or pins k d).place (get_or pins k d).id.want (get_or pins k d).cost)
+    → ((k : ℕ) (d : PinCount) → k < length counts → PinsCounted pins counts (get_or counts k d).place (get_or counts k d).want (get_or counts k d).cost)
+    → (place : Option ℕ) (want cost : ℕ) → PinsCounted pins counts place want cost
+all_pins_counted pins counts in_pins in_counts place want cost =
+    elim (none_or_one wanted (λ (p : Pin). 1) kind pins) [
+      | inr pin ↦
+          let some_pin = some_of pins pin.0 pin.1 in
+          subst Counts (pin.2 some_pin) (in_pins pin.0 some_pin pin.1)
+      | inl no_pin ↦ elim (none_or_one counted_pins (λ (c : PinCount). c.count) kind counts) [
+        | inr count ↦ subst Counts (count.2 some_count) (in_counts count.0 some_count count.1)
+        | inl no_count ↦ no_pin ∙ sym no_count
+      ]
+    ]
+  where
+    kind : PinKind
+    kind = pins_of place want cost
+
+    Counts : PinKind → Type 0
+    Counts k = PinsCounted pins counts k.place k.permitted k.cost
+
+    wanted : Pin → PinKind
+    wanted p = pins_of p.place p.id.want p.cost
+
+    some_count : PinCount
+    some_count = record { place = place; want = want; cost = cost; count = 0 }
 
 -- what holds of the first ones and of the next holds of one more
 pub one_more : {X : Type 0} (P : X → Type 0) (xs : List X) (i : ℕ) (x : X) → i < length xs → x ≡ get_or xs i x → P x

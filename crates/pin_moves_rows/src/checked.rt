@@ -3,8 +3,8 @@ ghost use Rattle.lb_types_pins.specs.declared.kind.PinKind.{PinKind as AnyKind};
 ghost use Rattle.lb_types_pins.specs.Kinds.{kind_before, same_kind};
 ghost use Rattle.dual_cert_plan.specs.Plans.{groups_of, pins_in_rows};
 ghost use Rattle.pin_set.specs.Rows.{sent};
-ghost use Rattle.pin_groups.specs.Counts.{counted_kind, counted_with};
-ghost use Rattle.pin_moves.specs.Moves.{AreRisingCounts, AreGroupsOfCounts, counted_pins, move_before, moved_with, moved_to};
+ghost use Rattle.pin_groups.specs.Counts.{AreGroupsOfCounts, counted_kind, counted_with};
+ghost use Rattle.pin_moves.specs.Moves.{AreRisingCounts, counted_pins, move_before, moved_with, moved_to};
 
 use dual_cert_plan::Plan;
 use lb_types::{Place, ServerSet};

@@ -8,3 +8,5 @@ pub mod Turn
 pub mod Touch
 pub mod Taken
 pub mod Push
+pub mod Changes
+pub mod Permuted

@@ -4,6 +4,7 @@ use Rattle.std.specs.Option.{option_to_list, option_map_or}
 use Rattle.std.specs.VecDeque.{deque_capacity}
 use Rattle.pin_recent.specs.declared.stamped.Stamped.{Stamped}
 use Rattle.pin_recent.specs.declared.store.Store.{Store}
+use Rattle.pin_recent.specs.Recent.{Asks, given}
 
 -- the items that stand at these places. A place past the end has none, so a hole gives nothing
 abbrev pub picked : {X : Type 0} → List X → List ℕ → List X
@@ -78,3 +79,10 @@ turned places (place ∷ log) = if nat_lt place places then log ++ place ∷ [] 
 -- the log once the entry at this place, if there is one, is known to stand there
 abbrev pub settled : ℕ → List ℕ → ℕ → List ℕ → List ℕ
 settled first numbers place log = option_map_or (λ number. slice_set log (number - first) place) (slice_get numbers place) log
+
+-- each pair was asked for in its turn, and has the value that it got
+pub record IsPassed {C K V : Type 0} (changes : C → K → V → V → C → Type 0) (first last : C) (old new : List (K × V)) : Type 0 where
+  pub passed : List ((K × V) × V)
+  pub was : map (λ c. c.0) passed ≡ old
+  pub is : map given passed ≡ new
+  pub asks : Asks changes first passed last

@@ -1,9 +1,11 @@
 //! The order of last use, as a log of places with holes.
 ghost use Rattle.std.specs.Prelude.{◌≡◌, ◌+◌, ◌-◌, ◌^◌, ◌<◌, ◌≤◌, ◌↔◌, [], ◌∷◌, ◌++◌, IsTrue, OnOk, length, slice_get, slice_set};
 ghost use Rattle.std.specs.VecDeque.{deque_capacity};
+ghost use Rattle.std.specs.VecDeque.Iter.{deque_iter_rest};
 
 use std::alloc::{AllocError, Global};
 use std::collections::VecDeque;
+use std::collections::vec_deque::Iter;
 
 /// A place that no entry has: what stands in the log where a place was taken out.
 pub(crate) const HOLE: u32 = 0xFFFF_FFFF;
@@ -61,6 +63,13 @@ impl Log {
         ensures { result ≡ slice_get self.now.places.items 0 }
     {
         self.places.front().copied()
+    }
+
+    /// The places and holes, oldest first.
+    pub(crate) fn iter(&self) -> Iter<'_, u32>
+        ensures { deque_iter_rest result ≡ self.now.places.items }
+    {
+        self.places.iter()
     }
 
     /// Makes room for `additional` more.

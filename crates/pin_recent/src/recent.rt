@@ -1,8 +1,10 @@
-ghost use Rattle.std.specs.Prelude.{◌≡◌, ◌+◌, ◌^◌, ◌<◌, ◌≤◌, None, [], ◌∷◌, ◌++◌, if◌then◌else◌, is_some, IfErr, OnErr, OnOk, length, drop, slice_get};
+ghost use Rattle.std.specs.Prelude.{◌≡◌, ◌+◌, ◌^◌, ◌<◌, ◌≤◌, None, List, [], ◌∷◌, ◌++◌, if◌then◌else◌, is_some, IfErr, IsPermutation, OnErr, OnOk, length, drop, slice_get};
 ghost use Rattle.std.specs.Map.{lookup};
 ghost use Rattle.std.specs.Option.{option_copied, option_map};
-ghost use Rattle.pin_recent.specs.Recent.{in_order, touched};
+ghost use Rattle.pin_recent.specs.Recent.{IsChanged, MayChange, in_order, touched};
 
+use crate::change::Change;
+use crate::iter::Iter;
 use crate::store::Store;
 use std::alloc::{AllocFailed, Global};
 use std::hash::{BuildHasher, Hash};
@@ -73,6 +75,16 @@ impl<K: Eq + Hash, V, S: BuildHasher> Recent<K, V, S> {
         self.store.oldest()
     }
 
+    /// The pairs in order of last use, from the one that wasn't used for longest. It is no use of any pair.
+    ///
+    /// A walk through all of them is one pass over the order and the holes that touches left in it. It hashes nothing, and takes no
+    /// memory.
+    pub fn iter(&self) -> Iter<'_, K, V>
+        ensures { result ≡ self.now.pairs }
+    {
+        self.store.iter()
+    }
+
     /// Takes out the pair that wasn't used for longest, without memory.
     pub fn pop_oldest(&mut self) -> Option<(K, V)>
         requires { self.old.uses ≤ 2 ^ 63 }
@@ -84,6 +96,16 @@ impl<K: Eq + Hash, V, S: BuildHasher> Recent<K, V, S> {
             return None;
         }
         self.store.pop()
+    }
+
+    /// Changes each value once, in an order of the map's own. It is no use of any pair, hashes nothing, takes no memory and
+    /// can't fail. It costs one walk over the pairs, and a call of `change` for each of them.
+    pub fn change_values<C: Change<K, V>>(&mut self, change: &mut C)
+        requires { (order : List (K × V)) → IsPermutation self.old.pairs order → MayChange C.accepts C.changes change.old order }
+        ensures changed { IsChanged C.changes change.old change.new self.old.pairs self.new.pairs }
+        ensures uses { self.new.uses ≡ self.old.uses }
+    {
+        self.store.change_values(change);
     }
 }
 

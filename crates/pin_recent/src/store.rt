@@ -4,9 +4,11 @@ ghost use Rattle.std.specs.Map.{lookup};
 ghost use Rattle.std.specs.Option.{option_copied, option_map};
 ghost use Rattle.std.specs.VecDeque.{deque_capacity};
 ghost use Rattle.indexmap.specs.IndexMap.{spare};
-ghost use Rattle.pin_recent.specs.Recent.{touched};
-ghost use Rattle.pin_recent.specs.Sound.{Ordered, Trim, Tied, OnlyAt, Nowhere, bare, numbers, stored, next_number, spent, settled, turned};
+ghost use Rattle.pin_recent.specs.Recent.{MayChange, touched};
+ghost use Rattle.pin_recent.specs.Sound.{Ordered, Trim, Tied, OnlyAt, Nowhere, IsPassed, bare, numbers, stored, next_number, spent, settled, turned};
 
+use crate::change::Change;
+use crate::iter::Iter;
 use crate::log::{HOLE, Log};
 use crate::stamped::Stamped;
 use indexmap::IndexMap;
@@ -201,6 +203,29 @@ impl<K: Eq + Hash, V, S: BuildHasher> Store<K, V, S> {
         let place = self.log.front()?;
         let (key, stamped) = self.map.get_index(place as usize)?;
         Some((key, &stamped.value))
+    }
+
+    /// The pairs in the log's order.
+    pub(crate) fn iter(&self) -> Iter<'_, K, V>
+        ensures { result ≡ stored self.now }
+    {
+        Iter {
+            pairs: self.map.as_slice(),
+            places: self.log.iter(),
+        }
+    }
+
+    /// Changes each value, in the map's order.
+    pub(crate) fn change_values<C: Change<K, V>>(&mut self, change: &mut C)
+        requires { MayChange C.accepts C.changes change.old (bare self.old.map.entries) }
+        ensures passed { IsPassed C.changes change.old change.new (bare self.old.map.entries) (bare self.new.map.entries) }
+        ensures numbers { numbers self.new.map.entries ≡ numbers self.old.map.entries }
+        ensures log { self.new.log ≡ self.old.log }
+    {
+        for place in 0..self.map.len() {
+            let (key, stamped) = self.map.pair_mut(place);
+            change.change(key, &mut stamped.value);
+        }
     }
 
     /// Room in the map and in the log for one pair more. It fails at 4294967294 pairs too, as places are counted in 32 bits.

@@ -47,7 +47,7 @@ impl<S: BuildHasher + Drop> Both<S> {
         self.table.pop_oldest() == was
     }
 
-    /// Whether both have as many pairs, the same oldest one, and the same value for the key.
+    /// Whether both have as many pairs, in the same order, the same oldest one, and the same value for the key.
     fn agree(&self, key: u32) -> bool {
         let value = self
             .plain
@@ -58,6 +58,19 @@ impl<S: BuildHasher + Drop> Both<S> {
         self.table.len() == self.plain.len()
             && self.table.find(&key).copied() == value
             && oldest == self.plain.first().copied()
+            && self.walk_agrees()
+    }
+
+    /// Whether a walk through the map gives the list's pairs in their order.
+    fn walk_agrees(&self) -> bool {
+        let mut left = self.plain.len();
+        for ((key, value), pair) in self.table.iter().zip(self.plain.iter()) {
+            if (*key, *value) != *pair {
+                return false;
+            }
+            left = left.saturating_sub(1);
+        }
+        left == 0
     }
 }
 

@@ -1,6 +1,8 @@
 -- What a table counts its pins by: place, wanted servers and cost. That it counts them is our own.
-use Rattle.std.specs.Prelude.{◌≡◌, ℕ, Bool, ◌&&◌, ◌==◌, List, count_by, sum_by, if◌then◌else◌}
+use Rattle.std.specs.Prelude.{◌≡◌, ℕ, Bool, ◌&&◌, ◌==◌, Option, List, map, count_by, sum_by, if◌then◌else◌}
 use Rattle.lb_types_pins.specs.Kinds.{same_place}
+use Rattle.pin_groups.specs.declared.counted.PinCount.{PinCount}
+use Rattle.pin_groups.specs.Counts.{counted_with, pins_with}
 use Rattle.lb_desk_model.specs.declared.table_pin.TablePin.{TablePin}
 use Rattle.pin_table.specs.declared.table_kind.TableKind.{TableKind}
 
@@ -22,3 +24,8 @@ counted_of counts kind = sum_by (λ c. if same_kind kind c.0 then c.1 else 0) co
 -- the counts say of each kind how many of the pins are of it
 abbrev pub AreCounts : List TablePin → List (TableKind × ℕ) → Type 0
 AreCounts pins counts = (kind : TableKind) → counted_of counts kind ≡ pins_of pins kind
+
+-- the counts have as many pins of each place, wanted servers and cost as there are
+abbrev pub ArePinCounts : List TablePin → List PinCount → Type 0
+ArePinCounts pins counts =
+    (place : Option ℕ) (want cost : ℕ) → counted_with counts place want cost ≡ pins_with (map (λ p. p.pin) pins) place want cost

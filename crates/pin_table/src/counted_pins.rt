@@ -1,19 +1,25 @@
 //! Pins in order of last use, with their counts.
-ghost use Rattle.std.specs.Prelude.{◌≡◌, ℕ, ◌+◌, ◌^◌, ◌<◌, ◌≤◌, [], ◌∷◌, ◌++◌, Some, IfErr, IfSome, IfNone, OnOk, OnErr, length, drop, slice_get};
+ghost use Rattle.std.specs.Prelude.{◌≡◌, ℕ, ◌+◌, ◌^◌, ◌<◌, ◌≤◌, true, [], ◌∷◌, ◌++◌, All, AllPairs, Some, IfErr, IfOk, IfSome, IfNone, OnOk, OnErr, length, drop, slice_get};
 ghost use Rattle.std.specs.Map.Iter.{ShowsInOrder, deref_pair};
 ghost use Rattle.std.specs.Option.{option_map};
 ghost use Rattle.pin_counts.specs.Counts.{AreRising};
 ghost use Rattle.lb_desk_model.specs.Serves.{IsNew};
 ghost use Rattle.pin_table.specs.declared.table_kind.TableKind.{TableKind as AnyKind};
 ghost use Rattle.pin_table.specs.Counted.{AreApart, used_pins};
-ghost use Rattle.pin_table.specs.Kinds.{AreCounts};
+ghost use Rattle.pin_table.specs.Kinds.{AreCounts, ArePinCounts};
 ghost use Rattle.pin_table.specs.Pins.{held_pin, Stands, IsUsed};
+ghost use Rattle.pin_table.specs.Placed.{AreMovesOf, ArePlaced};
+ghost use Rattle.pin_moves.specs.Moves.{AreRisingCounts, move_before};
 
+use crate::placing::counts_after;
 use crate::{Held, TableKind};
+use lb_desk_model::TablePin;
 use lb_types::{Moment, ServerId};
 use pin_counts::Counts;
+use pin_groups::PinCount;
+use pin_moves::{Move, Moving};
 use pin_recent::Recent;
-use pin_set::PinId;
+use pin_set::{Pin, PinId};
 use std::alloc::{AllocError, Global};
 use std::collections::btree_map::Iter;
 use std::hash::BuildHasher;
@@ -120,6 +126,25 @@ impl<S: BuildHasher> CountedPins<S> {
         Ok(())
     }
 
+    /// Each pin goes where the moves send it. It needs memory for the counts; a refusal changes nothing.
+    pub(crate) fn set_places(&mut self, alloc: Global, moves: Vec<Move>) -> Result<(), AllocError>
+        requires rising { AllPairs (λ a b. move_before a b ≡ true) moves.items }
+        requires some { All (λ m. 1 ≤ m.count) moves.items }
+        requires of_pins { AreMovesOf self.old.pins moves.items }
+        requires few { length self.old.pins < 2 ^ 32 }
+        ensures ok { OnOk result (ArePlaced moves.items self.old.pins self.new.pins) }
+        ensures len { length self.new.pins ≡ length self.old.pins }
+        ensures uses { self.new.uses ≡ self.old.uses }
+        ensures err { OnErr result (self.new ≡ self.old) }
+    {
+        // What may be refused comes before the pass, which can't be undone.
+        let counts = counts_after(alloc, &moves)?;
+        let mut moving = Moving::new(moves);
+        self.pins.change_values(&mut moving);
+        self.counts = counts;
+        Ok(())
+    }
+
     /// Puts a pin whose name is new behind the others. Fails, with the name handed back, where there is no memory; then nothing
     /// has changed.
     pub(crate) fn push(&mut self, name: PinId, held: Held) -> Result<(), PinId>
@@ -160,6 +185,18 @@ impl<S: BuildHasher> CountedPins<S> {
         let _ = self.pop_oldest();
     }
 
+    /// Copies of the pins, in order of last use.
+    pub(crate) fn rows(&self, alloc: Global) -> Result<Vec<TablePin>, AllocError>
+        ensures { IfOk result (λ rows. rows.items ≡ self.now.pins) }
+    {
+        let mut rows = Vec::with_capacity(alloc, self.pins.len())?;
+        for (name, held) in self.pins.iter() {
+            let row = row_of(name, *held)?;
+            rows.push(row)?;
+        }
+        Ok(rows)
+    }
+
     /// How many pins there are of each kind, for the kinds that there are, in rising order.
     pub(crate) fn counts(&self) -> Iter<'_, TableKind, u64>
         ensures rising { AreRising ⟦<TableKind as Ord>⟧.cmp result }
@@ -168,4 +205,36 @@ impl<S: BuildHasher> CountedPins<S> {
     {
         self.counts.iter()
     }
+
+    /// The same counts as a list, as the moves of a plan are shared out among them.
+    pub(crate) fn pin_counts(&self, alloc: Global) -> Result<Vec<PinCount>, AllocError>
+        ensures rising { IfOk result (λ counts. AreRisingCounts counts.items) }
+        ensures exact { IfOk result (λ counts. ArePinCounts self.now.pins counts.items) }
+    {
+        let mut counts = Vec::new(alloc);
+        for (kind, count) in self.counts.iter() {
+            counts.push(PinCount {
+                place: kind.place,
+                want: kind.want,
+                cost: kind.cost,
+                count: *count,
+            })?;
+        }
+        Ok(counts)
+    }
+}
+
+/// A copy of the pin of this name.
+fn row_of(name: &PinId, held: Held) -> Result<TablePin, AllocError>
+    ensures { IfOk result (λ row. row ≡ held_pin name.now held) }
+{
+    let pin = Pin {
+        id: name.clone()?,
+        place: held.place,
+        cost: held.cost,
+    };
+    Ok(TablePin {
+        pin,
+        last_use: held.last_use,
+    })
 }

@@ -1,17 +1,21 @@
-ghost use Rattle.std.specs.Prelude.{◌≡◌, ℕ, ◌+◌, ◌^◌, ◌<◌, ◌≤◌, true, [], ◌∷◌, ◌++◌, Some, IsErr, IfErr, IfSome, IfNone, OnOk, OnErr, length, drop, slice_get};
+ghost use Rattle.std.specs.Prelude.{◌≡◌, ℕ, ◌+◌, ◌^◌, ◌<◌, ◌≤◌, true, [], ◌∷◌, ◌++◌, All, AllPairs, Some, IsErr, IfErr, IfOk, IfSome, IfNone, OnOk, OnErr, length, drop, slice_get};
 ghost use Rattle.std.specs.Map.Iter.{ShowsInOrder, deref_pair};
 ghost use Rattle.std.specs.Option.{option_map};
 ghost use Rattle.pin_counts.specs.Counts.{AreRising};
 ghost use Rattle.lb_desk_model.specs.Serves.{IsNew};
 ghost use Rattle.pin_table.specs.declared.table_kind.TableKind.{TableKind as AnyKind};
-ghost use Rattle.pin_table.specs.Kinds.{AreCounts};
+ghost use Rattle.pin_table.specs.Kinds.{AreCounts, ArePinCounts};
 ghost use Rattle.pin_table.specs.Pins.{held_pin, made_pin, Stands, IsUsed};
+ghost use Rattle.pin_table.specs.Placed.{AreMovesOf, ArePlaced};
+ghost use Rattle.pin_moves.specs.Moves.{AreRisingCounts, move_before};
 ghost use Rattle.pin_table.specs.Tables.{IsTable, IsRefusal, after_use, is_closed, is_full, staying, table_of_parts, with_pins};
 
 use crate::counted_pins::CountedPins;
 use crate::{Held, InsertFault, NotInserted, TableKind};
-use lb_desk_model::TableSettings;
+use lb_desk_model::{TablePin, TableSettings};
 use lb_types::{Moment, ServerId};
+use pin_groups::PinCount;
+use pin_moves::Move;
 use pin_set::PinId;
 use std::alloc::{AllocError, Global};
 use std::collections::btree_map::Iter;
@@ -32,6 +36,8 @@ pub struct Table<S: BuildHasher> {
 
 impl<S: BuildHasher> Model for Table<S> {
     ghost use Rattle.pin_table.specs.Counted.{IsSized};
+    ghost use Rattle.pin_table.specs.Placed.{AreMovesOf, ArePlaced};
+    ghost use Rattle.pin_moves.specs.Moves.{AreRisingCounts, move_before};
     ghost use Rattle.pin_table.specs.Tables.{TableParts, table_of_parts};
 
     ghost Value = { TableParts };
@@ -136,6 +142,23 @@ impl<S: BuildHasher> Table<S> {
         self.pins.move_to(name, held, server, now)
     }
 
+    /// Sends each pin where the moves say, in one pass that hashes nothing. It is no use of any pin, and changes no cost and no
+    /// moment. The moves have to be of exactly the pins that there are; which of the pins of one place, wanted servers and cost goes
+    /// where is free.
+    ///
+    /// Fails where there is no memory for the counts behind the moves; then nothing has changed. Once that memory is taken nothing
+    /// is refused. Each pin costs one search among the moves.
+    pub fn set_places(&mut self, alloc: Global, moves: Vec<Move>) -> Result<(), AllocError>
+        requires rising { AllPairs (λ a b. move_before a b ≡ true) moves.items }
+        requires some { All (λ m. 1 ≤ m.count) moves.items }
+        requires of_pins { AreMovesOf self.old.pins moves.items }
+        ensures ok { OnOk result (ArePlaced moves.items self.old.pins self.new.pins) }
+        ensures rest { self.new ≡ with_pins self.old self.new.pins }
+        ensures err { OnErr result (self.new ≡ self.old) }
+    {
+        self.pins.set_places(alloc, moves)
+    }
+
     /// Makes a pin at the server, which is a use of it. A full table loses the pin that wasn't used for longest, or with
     /// `no_purge` lets no pin in. The name has to be new to the table.
     ///
@@ -189,6 +212,16 @@ impl<S: BuildHasher> Table<S> {
         self.pins.pop_oldest()
     }
 
+    /// Copies of the pins, in order of last use, the one that wasn't used for longest first. It is no use of any pin.
+    ///
+    /// It costs one walk over the pins and a copy of each key, and hashes nothing. It takes memory for the list and for the keys
+    /// that are text, of which want is its one error.
+    pub fn rows(&self, alloc: Global) -> Result<Vec<TablePin>, AllocError>
+        ensures exact { IfOk result (λ rows. rows.items ≡ self.now.pins) }
+    {
+        self.pins.rows(alloc)
+    }
+
     /// How many pins there are of each kind, for the kinds that there are, in rising order. The counts are kept as pins change,
     /// so that it costs a step for each kind.
     pub fn counts(&self) -> Iter<'_, TableKind, u64>
@@ -197,5 +230,14 @@ impl<S: BuildHasher> Table<S> {
         ensures runs { ShowsInOrder (deref_pair {K = AnyKind} {X = ℕ}) }
     {
         self.pins.counts()
+    }
+
+    /// The same counts as a list, among which the moves of a plan can be shared out. It takes memory for as many counts as there
+    /// are kinds.
+    pub fn pin_counts(&self, alloc: Global) -> Result<Vec<PinCount>, AllocError>
+        ensures rising { IfOk result (λ counts. AreRisingCounts counts.items) }
+        ensures exact { IfOk result (λ counts. ArePinCounts self.now.pins counts.items) }
+    {
+        self.pins.pin_counts(alloc)
     }
 }

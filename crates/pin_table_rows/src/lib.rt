@@ -1,11 +1,17 @@
-//! The table of pins: worked rows, and random calls beside a plain list, with both hashers.
+//! The table of pins: worked rows, worked plans whose moves it makes, and random calls beside a plain list, with both hashers.
 //!
-//! Tests alone, of `pin_table`. Start at `rows`; `random` has the plain list.
+//! Tests of `pin_table`, and `placed`, which tests at run time what `Table::set_places` asks for. Start at `rows`; `random` has the
+//! plain list.
 #![tactic(auto)]
 
+#[cfg(test)]
+mod placing;
+mod plans;
 #[cfg(test)]
 mod random;
 #[cfg(test)]
 mod rows;
 #[cfg(test)]
 mod sketch;
+
+pub use plans::placed;

@@ -115,6 +115,24 @@ impl<S: BuildHasher + Drop> Both<S> {
             && self.counts_agree()
     }
 
+    /// Whether the table's rows are the list's pins, in their order.
+    fn rows_agree(&self, alloc: Global) -> Result<bool, AllocError> {
+        let rows = self.table.rows(alloc)?;
+        if rows.len() != self.plain.len() {
+            return Ok(false);
+        }
+        for (row, pin) in rows.iter().zip(self.plain.iter()) {
+            if row.pin.id != name_of(pin.number)
+                || row.pin.place != pin.place
+                || row.pin.cost != cost_of(pin.number)
+                || row.last_use != pin.last_use
+            {
+                return Ok(false);
+            }
+        }
+        Ok(true)
+    }
+
     /// Whether both have the same pin of this number, or none.
     fn pin_agrees(&self, number: u32) -> bool {
         let pin = self.plain.iter().find(|pin| pin.number == number).copied();
@@ -186,7 +204,7 @@ fn first_difference<S: BuildHasher + Drop>(
             let now = Moment::from_millis(u64::from(call));
             both.used(number, server, draw % 16 < 8, now)?
         };
-        if !same || !both.agree(number) {
+        if !same || !both.agree(number) || !both.rows_agree(alloc)? {
             return Ok(Some(call));
         }
     }
@@ -195,10 +213,10 @@ fn first_difference<S: BuildHasher + Drop>(
 
 /// The table's size, whether it keeps its pins, and how many calls are made.
 const SIZES: [(u32, bool, u32); 4] = [
-    (8, false, 20_000),
-    (8, true, 5_000),
-    (1, false, 5_000),
-    (23, false, 20_000),
+    (8, false, 40_000),
+    (8, true, 10_000),
+    (1, false, 10_000),
+    (23, false, 40_000),
 ];
 
 #[test]

@@ -38,7 +38,10 @@ fn complain(rt: &(impl Print + Eprint), error: &Error) -> ExitCode {
     }
     match error.print(rt) {
         Ok(()) => ExitCode::from(exit_status(error)),
-        Err(_) => ExitCode::from(exit_status(error).max(1)),
+        Err(_) => {
+            let _ = eprintln!(rt; "cannot write");
+            ExitCode::from(exit_status(error).max(1))
+        }
     }
 }
 

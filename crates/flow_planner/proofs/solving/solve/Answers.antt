@@ -11,8 +11,9 @@ use Rattle.flow_planner.proofs.solving.solve.Goals as goal
 pub start-requires : goal.start-requires
 start-requires c =
     let network = c.args.network.now in
-    let blank = c.requires in
+    let blank = c.requires.blank in
     record {
+      groups = c.requires.groups;
       roomy = record {
         lawful = blank.lawful;
         table = blank-len (options network * size network) c.args.counts.now blank.unplaced;
@@ -25,7 +26,7 @@ start-requires c =
 pub repair-requires : goal.repair-requires
 repair-requires c =
     let network = c.args.network.now in
-    let blank = c.requires in
+    let blank = c.requires.blank in
     let placed = c.start.ensures in
     let used = used_of (size network) c.start.new.counts in
     let free = blank-at (options network) c.args.prices.now blank.unpriced in
@@ -53,7 +54,7 @@ repair-requires c =
 pub returns : goal.returns
 returns c =
     let network = c.args.network.now in
-    let blank = c.requires in
+    let blank = c.requires.blank in
     let used = used_of (size network) c.start.new.counts in
     let looks : c.args.arcs.now.looks ≡ 0 = ap (λ (arcs : ArcsParts). arcs.looks) blank.unknown in
     let made = c.repair.ensures in

@@ -28,3 +28,6 @@ returns-clause-exact c = λ view has.
       servers = listed;
       counts = groups-counted c.args.usable c.args.servers.now c.args.counts.now view groups has c.in_ok-groups.ensures.counts;
     })
+
+pub returns-clause-groups : goal.returns-clause-groups
+returns-clause-groups c = rw c.new.ensures c.in_ok-groups.ensures.counts

@@ -1,0 +1,52 @@
+//! Names of pins, by number. Each has a key of 16 bytes that look random, and wants no server.
+
+use lb_types::ServerSet;
+use pin_set::{KeyText, PinId, PinKey};
+use std::alloc::{AllocError, Global};
+
+/// The name of the pin of this number.
+pub fn name(alloc: Global, number: u32) -> Result<PinId, AllocError> {
+    let lower = mixed(u64::from(number));
+    let bytes = (u128::from(mixed(lower)) << 64 | u128::from(lower)).to_le_bytes();
+    Ok(PinId {
+        key: PinKey::Text(KeyText::copied_from(alloc, &bytes)?),
+        want: ServerSet::empty(),
+    })
+}
+
+/// The names of so many numbers, from the first one on.
+pub fn names(alloc: Global, first: u32, count: u32) -> Result<Vec<PinId>, AllocError> {
+    let mut names = Vec::with_capacity(alloc, count as usize)?;
+    for number in first..first.saturating_add(count) {
+        names.push(name(alloc, number)?)?;
+    }
+    Ok(names)
+}
+
+/// The names of so many pins, drawn from all that there are. The draws have numbers, from the first one on.
+pub fn drawn_names(
+    alloc: Global,
+    first: u32,
+    count: u32,
+    pins: u32,
+) -> Result<Vec<PinId>, AllocError> {
+    let mut names = Vec::with_capacity(alloc, count as usize)?;
+    for draw in first..first.saturating_add(count) {
+        names.push(name(alloc, drawn(draw, pins))?)?;
+    }
+    Ok(names)
+}
+
+/// A number below that of the pins that looks random, the same for the same draw. It is 0 where there are no pins.
+pub fn drawn(draw: u32, pins: u32) -> u32 {
+    let random = (mixed(u64::from(draw)) >> 32) as u32;
+    random.checked_rem(pins).unwrap_or(0)
+}
+
+/// A number that looks random, another one for each number. The steps are those of SplitMix64.
+fn mixed(number: u64) -> u64 {
+    let sum = number.wrapping_add(0x9E37_79B9_7F4A_7C15);
+    let once = (sum ^ (sum >> 30)).wrapping_mul(0xBF58_476D_1CE4_E5B9);
+    let twice = (once ^ (once >> 27)).wrapping_mul(0x94D0_49BB_1331_11EB);
+    twice ^ (twice >> 31)
+}

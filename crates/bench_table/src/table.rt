@@ -1,0 +1,209 @@
+//! The calls of a table of pins, each timed by itself, with names made beforehand and a seeded hasher.
+//!
+//! A table grows from empty to so many pins; then pins drawn at random are found and used, three times as many; then as many new
+//! pins are made, each of which purges the oldest; then the counts are walked over, of 1,000 kinds where there are pins enough.
+//! Memory is what the process has more than before the growth. Last, a table grows under the hasher of fixed seed.
+
+use anyhow::Result;
+use bench_parts::{Times, drawn_names, grown, names, resident, tell_clock};
+use lb_desk_model::TableSettings;
+use lb_types::{Moment, ServerId};
+use pin_set::PinId;
+use pin_table::Table;
+use std::alloc::{AllocError, Global};
+use std::hash::{BuildHasher, BuildHasherDefault, FoldHasher, RandomState};
+use std::random::RandomSource;
+use std::rt::Runtime;
+use std::time::Instant;
+
+/// For how many calls names are made beforehand.
+const BATCH: u32 = 10_000;
+
+/// Pins are made at so many servers in turn, and then at so many costs.
+const SERVERS: u32 = 125;
+
+const COSTS: u32 = 8;
+
+/// More than a table is used here.
+const MANY: u64 = 1 << 40;
+
+pub(crate) fn run(rt: &(impl Runtime + RandomSource), alloc: Global, pins: u32) -> Result<()> {
+    tell_clock(rt)?;
+    use_table(rt, alloc, RandomState::new(rt)?, pins)?;
+    grow_unseeded(rt, alloc, pins)
+}
+
+/// Fills a table, uses its pins, and makes as many new ones.
+fn use_table<S: BuildHasher + Drop>(
+    rt: &impl Runtime,
+    alloc: Global,
+    hasher: S,
+    pins: u32,
+) -> Result<()> {
+    let before = resident(rt)?;
+    let mut table = Table::new(alloc, settings(pins), hasher);
+    make(rt, alloc, &mut table, 0, pins, "growth")?;
+    tell_memory(rt, before, pins)?;
+    touch(rt, alloc, &mut table, pins)?;
+    purge(rt, alloc, &mut table, pins)?;
+    tell_memory(rt, before, pins)?;
+    count(rt, alloc, &table)
+}
+
+/// Makes as many new pins as the full table has.
+fn purge<S: BuildHasher + Drop>(
+    rt: &impl Runtime,
+    alloc: Global,
+    table: &mut Table<S>,
+    pins: u32,
+) -> Result<()> {
+    let what = "an insert with a purge";
+    make(rt, alloc, table, pins, pins, what)
+}
+
+fn tell_memory(rt: &impl Runtime, before: u64, pins: u32) -> Result<()> {
+    let bytes = grown(rt, before, u64::from(pins))?;
+    eprintln!(rt; "{bytes} bytes a pin")?;
+    Ok(())
+}
+
+fn settings(pins: u32) -> TableSettings {
+    TableSettings {
+        size: pins.max(1).min(16_777_216),
+        expire: None,
+        no_purge: false,
+    }
+}
+
+/// Makes so many pins, from the first number on.
+fn make<S: BuildHasher + Drop>(
+    rt: &impl Runtime,
+    alloc: Global,
+    table: &mut Table<S>,
+    first: u32,
+    count: u32,
+    what: &str,
+) -> Result<()> {
+    let mut times = Times::none();
+    for batch in 0..count.div_ceil(BATCH) {
+        let made = batch.saturating_mul(BATCH);
+        let number = first.saturating_add(made);
+        let names = names(alloc, number, BATCH.min(count.saturating_sub(made)))?;
+        make_each(rt, table, number, names, &mut times)?;
+    }
+    println!(rt; "{what}: {} pins", table.len())?;
+    times.tell(rt, what)
+}
+
+/// Makes these pins, which have numbers from the first one on.
+fn make_each<S: BuildHasher + Drop>(
+    rt: &impl Runtime,
+    table: &mut Table<S>,
+    first: u32,
+    names: Vec<PinId>,
+    times: &mut Times,
+) -> Result<()> {
+    let mut number = first;
+    for name in names {
+        let start = Instant::now(rt)?;
+        make_one(table, number, name)?;
+        times.add(rt, start)?;
+        number = number.wrapping_add(1);
+    }
+    Ok(())
+}
+
+/// Makes a pin whose name is new.
+fn make_one<S: BuildHasher + Drop>(
+    table: &mut Table<S>,
+    number: u32,
+    name: PinId,
+) -> Result<(), AllocError> {
+    if table.uses() >= MANY || table.find(&name).is_some() {
+        return Ok(());
+    }
+    let server = ServerId::new((number % SERVERS) as u8);
+    let cost = (number / SERVERS % COSTS) as u16 + 1;
+    match table.insert(name, server, cost, Moment::from_millis(0)) {
+        Ok(()) => Ok(()),
+        Err(_) => Err(AllocError),
+    }
+}
+
+/// Finds and uses three times as many pins as there are, and tells how many were there.
+fn touch<S: BuildHasher + Drop>(
+    rt: &impl Runtime,
+    alloc: Global,
+    table: &mut Table<S>,
+    pins: u32,
+) -> Result<()> {
+    let mut times = Times::none();
+    let mut used: u64 = 0;
+    let draws = pins.saturating_mul(3);
+    for batch in 0..draws.div_ceil(BATCH) {
+        let drawn = batch.saturating_mul(BATCH);
+        let count = BATCH.min(draws.saturating_sub(drawn));
+        let names = drawn_names(alloc, drawn, count, pins)?;
+        used = used.saturating_add(touch_each(rt, table, &names, &mut times)?);
+    }
+    println!(rt; "{used} uses of pins that were there")?;
+    times.tell(rt, "a find and a touch")
+}
+
+fn touch_each<S: BuildHasher + Drop>(
+    rt: &impl Runtime,
+    table: &mut Table<S>,
+    names: &[PinId],
+    times: &mut Times,
+) -> Result<u64> {
+    let mut used: u64 = 0;
+    for name in names {
+        let start = Instant::now(rt)?;
+        let was_there = touch_one(table, name);
+        times.add(rt, start)?;
+        used = used.saturating_add(u64::from(was_there));
+    }
+    Ok(used)
+}
+
+/// Finds the pin, and uses it where it is: whether it was there.
+fn touch_one<S: BuildHasher + Drop>(table: &mut Table<S>, name: &PinId) -> bool {
+    if table.uses() >= MANY {
+        return false;
+    }
+    let Some(held) = table.find(name) else {
+        return false;
+    };
+    table.keep(name, held, Moment::from_millis(0));
+    true
+}
+
+/// Tells how many kinds there are, and how long it takes to walk over their counts and to list them.
+fn count<S: BuildHasher + Drop>(rt: &impl Runtime, alloc: Global, table: &Table<S>) -> Result<()> {
+    let start = Instant::now(rt)?;
+    let (kinds, pins) = walked(table);
+    let walked = start.elapsed(rt)?.as_micros();
+    let start = Instant::now(rt)?;
+    let listed = table.pin_counts(alloc)?.len();
+    let listing = start.elapsed(rt)?.as_micros();
+    println!(rt; "{kinds} kinds of {pins} pins, {listed} in a list")?;
+    eprintln!(rt; "counts: walked over in {walked} us, listed in {listing} us")?;
+    Ok(())
+}
+
+fn walked<S: BuildHasher + Drop>(table: &Table<S>) -> (u64, u64) {
+    let mut kinds: u64 = 0;
+    let mut pins: u64 = 0;
+    for (_, count) in table.counts() {
+        kinds = kinds.saturating_add(1);
+        pins = pins.saturating_add(*count);
+    }
+    (kinds, pins)
+}
+
+/// Grows a table under the hasher of fixed seed.
+fn grow_unseeded(rt: &impl Runtime, alloc: Global, pins: u32) -> Result<()> {
+    let hasher = BuildHasherDefault::<FoldHasher>::new();
+    let mut table = Table::new(alloc, settings(pins), hasher);
+    make(rt, alloc, &mut table, 0, pins, "growth, unseeded")
+}

@@ -1,0 +1,15 @@
+use Rattle.std.proofs.Common.{◌≡◌, ◌≢◌, ◌+◌, ◌<◌, ℕ}
+use Rattle.flow_planner_net.specs.Networks.{size}
+use Rattle.flow_planner_net.specs.States.{used_of, at}
+use Rattle.flow_planner.specs.Fillings.{IsFilling, IsRoomy, placed_of}
+use Rattle.flow_planner.proofs.spreading.fill.Given as goal
+
+abbrev pub invariant-loop-option : goal.invariant-loop-option
+invariant-loop-option l = record {
+  roomy : IsRoomy l.network l.counts l.loads;
+  filling : IsFilling l.network (used_of (size l.network) l.counts) (at l.loads);
+  placed : placed_of l.network (used_of (size l.network) l.counts) l.group + l.left
+      ≡ placed_of l.network (used_of (size l.network) l.fn.counts) l.group + l.fn.pins;
+  others : (g : ℕ) → g < size l.network → g ≢ l.group
+      → placed_of l.network (used_of (size l.network) l.counts) g ≡ placed_of l.network (used_of (size l.network) l.fn.counts) g;
+}

@@ -1,0 +1,89 @@
+use http_relay_dial::{Dialer, Endpoint, Limits};
+use http_relay_system::{SocketDialer, SystemClock};
+use http_relay_wire::{SocketWire, Wire, WireFault, write_all};
+use lb_desk_ports::Clock;
+use std::net::{Ipv4Addr, TcpListener};
+use std::test::Fail;
+use std::time::Instant;
+
+fn endpoint(port: u16) -> Endpoint {
+    Endpoint {
+        address: Ipv4Addr::new(127, 0, 0, 1),
+        port,
+    }
+}
+
+// The limits to connect and for each read and write, in milliseconds.
+const LIMITS: &[(Option<u32>, Option<u32>)] = &[
+    (None, Some(100)),
+    (Some(0), Some(50)),
+    (Some(1000), Some(50)),
+];
+
+// Bytes go both ways over a connection that was dialled, and silence ends a read at the limit.
+#[test]
+fn a_server_that_listens_is_dialled(rt: HostRuntime) -> Result<(), Fail> {
+    for (connect, transfer) in LIMITS {
+        let listener = TcpListener::bind(&rt, "127.0.0.1:0")?;
+        let limits = Limits {
+            connect: *connect,
+            transfer: *transfer,
+        };
+        let mut dialer = SocketDialer::new();
+        let mut near = dialer.dial(&rt, endpoint(listener.local_addr()?.port()), limits)?;
+        let (far, _) = listener.accept()?;
+        let mut far = SocketWire::new(far);
+        let mut buffer = [0; 2];
+        write_all(&mut near, b"hi")?;
+        let there = far.read(&mut buffer)?;
+        write_all(&mut far, b"yo")?;
+        let back = near.read(&mut buffer)?;
+        let silence = near.read(&mut buffer);
+        dialer.hang_up(&rt, near);
+        let end = far.read(&mut buffer);
+        assert!(rt;
+            (there, back, silence, end) == (2, 2, Err(WireFault::Timeout), Ok(0))
+                && buffer == *b"yo",
+            "{connect:?}"
+        );
+    }
+    Ok(())
+}
+
+// A server that nobody listens for is broken at once.
+#[test]
+fn a_server_that_is_gone_is_not_dialled(rt: HostRuntime) -> Result<(), Fail> {
+    let gone = TcpListener::bind(&rt, "127.0.0.1:0")?.local_addr()?.port();
+    for connect in [None, Some(1000)] {
+        let limits = Limits {
+            connect,
+            transfer: None,
+        };
+        let mut dialer = SocketDialer::new();
+        let is_broken = match dialer.dial(&rt, endpoint(gone), limits) {
+            Ok(connection) => {
+                dialer.hang_up(&rt, connection);
+                false
+            }
+            Err(fault) => fault == WireFault::Broken,
+        };
+        assert!(rt; is_broken, "{connect:?}");
+    }
+    Ok(())
+}
+
+// The clock goes on by a pause at least, and two clocks of one start agree.
+#[test]
+fn the_clock_goes_on(rt: HostRuntime) -> Result<(), Fail> {
+    let start = Instant::now(&rt)?;
+    let mut clock = SystemClock::new(start);
+    let first = clock.now(&rt).as_millis();
+    clock.pause(&rt, 20);
+    let second = SystemClock::new(start).now(&rt).as_millis();
+    let third = clock.now(&rt).as_millis();
+    assert!(rt;
+        first.saturating_add(20) <= second && second <= third,
+        "{first}, {second}, {third}"
+    );
+    Ok(())
+}

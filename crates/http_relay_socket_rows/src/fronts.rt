@@ -1,0 +1,78 @@
+use http_relay_socket::FrontedWire;
+use http_relay_wire::{Script, ScriptedWire, Wire, WireFault, write_all};
+
+/// What a read answers: how many bytes came, and the first of them.
+type Given = Result<(usize, u8), WireFault>;
+
+/// What was read before, what the wire behind sends, how reading had failed, and what reads of four bytes give.
+type Front = (
+    &'static [u8],
+    &'static [u8],
+    Option<WireFault>,
+    &'static [Given],
+);
+
+const TIMEOUT: WireFault = WireFault::Timeout;
+
+const FRONTS: &[Front] = &[
+    (b"", b"ab", None, &[Ok((2, b'a')), Ok((0, 0)), Ok((0, 0))]),
+    (
+        b"abcdef",
+        b"g",
+        None,
+        &[Ok((4, b'a')), Ok((2, b'e')), Ok((1, b'g')), Ok((0, 0))],
+    ),
+    (b"ab", b"", None, &[Ok((2, b'a')), Ok((0, 0))]),
+    (
+        b"ab",
+        b"cd",
+        Some(TIMEOUT),
+        &[Ok((2, b'a')), Err(TIMEOUT), Err(TIMEOUT)],
+    ),
+    (
+        b"",
+        b"cd",
+        Some(WireFault::Broken),
+        &[Err(WireFault::Broken)],
+    ),
+];
+
+// What a read of at most four bytes gives, as far as it was filled.
+fn read_some(wire: &mut impl Wire) -> Given {
+    let mut buffer = [0; 4];
+    let count = wire.read(&mut buffer)?;
+    Ok((count, buffer[0]))
+}
+
+// The next reads give this.
+fn gives(wire: &mut impl Wire, expected: &[Given]) -> bool {
+    for given in expected {
+        if read_some(wire) != *given {
+            return false;
+        }
+    }
+    true
+}
+
+// The bytes that were read before come first, and alone. Behind them each read fails, or the wire's own bytes come.
+#[test]
+fn what_was_read_before_comes_first(rt: HostRuntime) {
+    for (front, behind, failed, expected) in FRONTS {
+        let wire = ScriptedWire::new(rt.alloc(), behind, Script::SMOOTH);
+        let mut wire = FrontedWire::new(wire, front, *failed);
+        assert!(rt; gives(&mut wire, expected), "{front:?}, {behind:?}");
+    }
+}
+
+// What is written goes to the wire behind, in the pieces that it takes.
+#[test]
+fn what_is_written_goes_through(rt: HostRuntime) {
+    let script = Script {
+        most_written: 2,
+        ..Script::SMOOTH
+    };
+    let inner = ScriptedWire::new(rt.alloc(), b"", script);
+    let mut wire = FrontedWire::new(inner, b"ab", None);
+    let answer = write_all(&mut wire, b"hello");
+    assert!(rt; answer == Ok(()) && wire.wire().written() == b"hello".as_slice());
+}

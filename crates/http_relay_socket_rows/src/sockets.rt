@@ -1,0 +1,72 @@
+use http_relay_socket::{Deadline, Drained, FrontedWire, PatientStream, StreamLimits, end_gently};
+use http_relay_wire::{SocketWire, Wire, WireFault, write_all};
+use std::io;
+use std::io::Read;
+use std::net::{TcpListener, TcpStream};
+use std::test::Fail;
+
+const TIMEOUT: WireFault = WireFault::Timeout;
+
+// Both ends of one connection.
+fn pair(rt: &HostRuntime) -> io::Result<(TcpStream, TcpStream)> {
+    let listener = TcpListener::bind(rt, "127.0.0.1:0")?;
+    let far = TcpStream::connect(rt, listener.local_addr()?)?;
+    let (near, _) = listener.accept()?;
+    Ok((near, far))
+}
+
+// What was read before comes first, then the socket's bytes; the stream is there afterwards, and silence ends a deadline.
+#[test]
+fn bytes_come_in_turn_until_the_deadline(rt: HostRuntime) -> Result<(), Fail> {
+    let (near, far) = pair(&rt)?;
+    write_all(&mut SocketWire::new(&far), b"cd")?;
+    let mut stream = PatientStream::new(near, Deadline::after(&rt, 100));
+    let mut wire = FrontedWire::new(SocketWire::new(&mut stream), b"ab", None);
+    let mut buffer = [0; 4];
+    let first = wire.read(&mut buffer)?;
+    let second = wire.read(&mut buffer[first..])?;
+    let third = wire.read(&mut [0; 4]);
+    let fourth = write_all(&mut wire, b"e");
+    let near = stream.into_stream();
+    assert!(rt;
+        (first, second) == (2, 2)
+            && buffer == *b"abcd"
+            && third == Err(TIMEOUT)
+            && fourth == Err(TIMEOUT)
+    );
+    assert!(rt; near.read_timeout()?.is_some());
+    Ok(())
+}
+
+// A peer that takes nothing fails a write at its limit, and a peer that says nothing a read. A part of the bytes went out.
+#[test]
+fn limits_hold_for_reads_and_writes(rt: HostRuntime) -> Result<(), Fail> {
+    let (near, far) = pair(&rt)?;
+    let limits = StreamLimits {
+        read: Some(50),
+        write: Some(50),
+    };
+    limits.set(&near)?;
+    let bytes = Vec::from_elem(rt.alloc(), 7, 20_000_000)?;
+    let mut wire = SocketWire::new(&near);
+    let written = write_all(&mut wire, &bytes);
+    let read = wire.read(&mut [0; 8]);
+    assert!(rt; written == Err(TIMEOUT) && read == Err(TIMEOUT));
+    drop(far);
+    Ok(())
+}
+
+// The peer has sent bytes that nobody read. Where the stream ends gently it gets the whole answer and then the end.
+#[test]
+fn an_answer_is_not_lost_where_bytes_stand_unread(rt: HostRuntime) -> Result<(), Fail> {
+    let (near, far) = pair(&rt)?;
+    let bytes = Vec::from_elem(rt.alloc(), 7, 100_000)?;
+    write_all(&mut SocketWire::new(&far), b"GET / HTTP/1.1\r\n\r\n")?;
+    write_all(&mut SocketWire::new(&near), &bytes)?;
+    let drained = end_gently(&rt, near, &mut [0; 4096]);
+    let mut answer = Vec::new(rt.alloc());
+    let mut far = far;
+    far.read_to_end(&mut answer)?;
+    assert!(rt; drained == Drained::Failed(TIMEOUT) && answer == bytes);
+    Ok(())
+}

@@ -1,0 +1,12 @@
+//! The relay's dialer and clock over the system's own.
+//!
+//! Promised: a `SocketDialer` is a `Dialer` whose connections are wires over sockets, and a `SystemClock` a `Clock`; both count and
+//! record what these traits' contracts say, and keep no records. What a socket does and what time it is no clause says. Start at
+//! `SocketDialer`.
+#![tactic(auto)]
+
+mod clock;
+mod dialer;
+
+pub use clock::SystemClock;
+pub use dialer::SocketDialer;

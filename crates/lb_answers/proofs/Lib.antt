@@ -1,0 +1,5 @@
+pub mod LastPlans
+pub mod Pieces
+pub mod PlainKeys
+pub mod Wants
+pub mod Wrote

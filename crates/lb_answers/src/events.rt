@@ -1,0 +1,169 @@
+//! Events of a backend, in the words of a script.
+ghost use Rattle.std.specs.Prelude.{◌≡◌, map, length};
+ghost use Rattle.dual_cert_write.specs.Sending.{Sends};
+ghost use Rattle.lb_answers.specs.Events.{cost_text, rules_text, request_text, result_word, setting_front, state_words, health_words, setting_behind, command_text, event_text, asked_server};
+
+use crate::keys::send_asked_key;
+use crate::names::{send_labelled, send_server};
+use dual_cert_write::sending::{Sent, send};
+use lb_desk_model::{BackendServer, Event, Request};
+use lb_types::{Name, Place, ServerId};
+use lb_types_counted::Counted;
+use server_state::{AdminState, Change, Setting};
+use std::io::Write;
+
+/// The server that the event names, if it names one: of a connection, a check or a command.
+pub fn asked_server(event: &Event) -> Place
+    ensures { result ≡ asked_server event.now }
+{
+    match event {
+        Event::Open(server) | Event::Close(server) | Event::Check(server, _) => Some(*server),
+        Event::Command(change) => Some(change.server),
+        Event::Serve(_) | Event::Expire(_) | Event::Snapshot | Event::Install(_) => None,
+    }
+}
+
+/// Sends the words of an event of the backend of this name, which has these servers.
+#[tactic(auto, unfolding(crate::specs::Events::event_text))]
+pub(crate) fn send_event<W: Write>(
+    out: &mut Counted<W>,
+    sent: Sent,
+    backend: &Name,
+    servers: &[BackendServer],
+    event: &Event,
+) -> Sent
+    ensures { Sends out.old sent out.new result (event_text backend.now servers.now event.now) }
+{
+    match event {
+        Event::Serve(request) => send_request(out, sent, servers, request),
+        Event::Open(server) => {
+            let sent = send(out, sent, b"open ");
+            send_server(out, sent, servers, *server)
+        }
+        Event::Close(server) => {
+            let sent = send(out, sent, b"close ");
+            send_server(out, sent, servers, *server)
+        }
+        Event::Expire(moment) => send_labelled(out, sent, b"expire ", moment.as_millis()),
+        Event::Check(server, succeeded) => {
+            let sent = send(out, sent, b"check ");
+            let sent = send_server(out, sent, servers, *server);
+            send(out, sent, result_word(*succeeded))
+        }
+        Event::Command(change) => send_command(out, sent, backend, servers, change),
+        Event::Snapshot => send(out, sent, b"snapshot"),
+        Event::Install(plan) => send_labelled(out, sent, b"install version ", plan.version()),
+    }
+}
+
+/// Sends a request's moment and key, and the servers and the cost of its rules.
+fn send_request<W: Write>(
+    out: &mut Counted<W>,
+    sent: Sent,
+    servers: &[BackendServer],
+    request: &Request,
+) -> Sent
+    ensures { Sends out.old sent out.new result (request_text servers.now request.now) }
+{
+    let sent = send_labelled(out, sent, b"serve ", request.moment.as_millis());
+    let sent = send(out, sent, b" ");
+    let sent = send_asked_key(out, sent, &request.key);
+    let sent = send_rules(out, sent, servers, request.rules.servers());
+    send_cost(out, sent, request.cost)
+}
+
+/// Sends each of the rules' servers behind a space.
+fn send_rules<W: Write>(
+    out: &mut Counted<W>,
+    sent: Sent,
+    servers: &[BackendServer],
+    rules: &[ServerId],
+) -> Sent
+    ensures { Sends out.old sent out.new result (rules_text servers.now rules.now) }
+{
+    let mut sent = sent;
+    for server in rules {
+        sent = send(out, sent, b" ");
+        sent = send_server(out, sent, servers, *server);
+    }
+    sent
+}
+
+/// Sends a cost, where it isn't 1.
+pub(crate) fn send_cost<W: Write>(out: &mut Counted<W>, sent: Sent, cost: u16) -> Sent
+    ensures { Sends out.old sent out.new result (cost_text cost) }
+{
+    if cost == 1 {
+        return sent;
+    }
+    send_labelled(out, sent, b" cost=", u64::from(cost))
+}
+
+/// What a check found.
+fn result_word(succeeded: bool) -> &'static [u8]
+    ensures { result.now ≡ result_word succeeded }
+{
+    if succeeded { b" ok" } else { b" fail" }
+}
+
+/// Sends the command that makes this change at a server of the backend of this name.
+fn send_command<W: Write>(
+    out: &mut Counted<W>,
+    sent: Sent,
+    backend: &Name,
+    servers: &[BackendServer],
+    change: &Change,
+) -> Sent
+    ensures { Sends out.old sent out.new result (command_text backend.now servers.now change.now) }
+{
+    let sent = send(out, sent, setting_front(change.setting));
+    let sent = send(out, sent, backend.as_bytes());
+    let sent = send(out, sent, b"/");
+    let sent = send_server(out, sent, servers, change.server);
+    send_setting(out, sent, change.setting)
+}
+
+/// The words before the server.
+fn setting_front(setting: Setting) -> &'static [u8]
+    ensures { result.now ≡ setting_front setting }
+{
+    match setting {
+        Setting::Admin(_) | Setting::Health(_) => b"set server ",
+        Setting::Weight(_) => b"set weight ",
+        Setting::MaxConnections(_) => b"set maxconn server ",
+        Setting::MaxPins(_) => b"set maxpins server ",
+    }
+}
+
+/// Sends the words behind the server.
+fn send_setting<W: Write>(out: &mut Counted<W>, sent: Sent, setting: Setting) -> Sent
+    ensures { Sends out.old sent out.new result (setting_behind setting) }
+{
+    match setting {
+        Setting::Admin(state) => send(out, sent, state_words(state)),
+        Setting::Health(is_up) => send(out, sent, health_words(is_up)),
+        Setting::Weight(number) | Setting::MaxConnections(number) | Setting::MaxPins(number) => {
+            send_labelled(out, sent, b" ", number)
+        }
+    }
+}
+
+fn state_words(state: AdminState) -> &'static [u8]
+    ensures { result.now ≡ state_words state }
+{
+    match state {
+        AdminState::Ready => b" state ready",
+        AdminState::Drain => b" state drain",
+        AdminState::Maint => b" state maint",
+    }
+}
+
+fn health_words(is_up: bool) -> &'static [u8]
+    ensures { result.now ≡ health_words is_up }
+{
+    if is_up {
+        b" health up"
+    } else {
+        b" health down"
+    }
+}

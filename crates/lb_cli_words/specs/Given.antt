@@ -1,0 +1,30 @@
+-- What the functions under `read_words` give, as lists. No public clause cites this module.
+use Rattle.std.specs.Prelude.{Bool, List, [], ◌∷◌, ◌++◌, Option, Some, None, option_map, if◌then◌else◌}
+use Rattle.std.specs.Borrow.{Bor}
+use Rattle.lb_cli_words.specs.Words.{Text, texts}
+use Rattle.lb_cli_words.specs.declared.own_option.Given.{Given}
+
+-- no operand, where there is none
+abbrev pub nothing_if : Bool → Option (List Text)
+nothing_if is_end = if is_end then Some [] else None
+
+-- one file
+abbrev pub one_of : Option (Bor Text) → Option (List Text)
+one_of = option_map (λ file. file.now ∷ [])
+
+-- two files
+abbrev pub two_of : Option (Bor Text × Bor Text) → Option (List Text)
+two_of = option_map (λ files. files.0.now ∷ files.1.now ∷ [])
+
+-- the values of an option that has at most one
+abbrev pub values_of : Option (Bor Text) → List Text
+values_of None = []
+values_of (Some value) = value.now ∷ []
+
+-- an option's values, and the words behind it
+abbrev pub given_of : Option Given → Option (List Text × List Text)
+given_of = option_map (λ given. (values_of given.value, texts given.rest.now))
+
+-- an option's values, and one file
+abbrev pub files_of : Option (Option (Bor Text) × Bor Text) → Option (List Text)
+files_of = option_map (λ files. values_of files.0 ++ files.1.now ∷ [])

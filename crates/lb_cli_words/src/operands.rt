@@ -1,0 +1,75 @@
+//! Operands: the words behind a command that are no options.
+ghost use Rattle.std.specs.Prelude.{◌≡◌};
+ghost use Rattle.lb_cli_words.specs.Words.{asks_help_within, exactly, operands_of, texts};
+ghost use Rattle.lb_cli_words.specs.Given.{nothing_if, one_of, two_of};
+
+use crate::word::{ends_options, is_help, is_operand, is_option};
+
+/// Whether no word is left, but for one that ends the options.
+pub(crate) fn is_end(words: &[&str]) -> bool
+    ensures { nothing_if result ≡ operands_of 0 (texts words.now) }
+{
+    match words.split_first() {
+        Some((word, rest)) => ends_options(word) && rest.is_empty(),
+        None => true,
+    }
+}
+
+/// The operand, where there is one.
+pub(crate) fn one_operand<'a>(words: &[&'a str]) -> Option<&'a str>
+    ensures { one_of result ≡ operands_of 1 (texts words.now) }
+{
+    let (word, rest) = words.split_first()?;
+    if ends_options(word) {
+        return one_word(rest);
+    }
+    (is_operand(word) && is_end(rest)).then_some(*word)
+}
+
+/// The two operands, where there are two.
+pub(crate) fn two_operands<'a>(words: &[&'a str]) -> Option<(&'a str, &'a str)>
+    ensures { two_of result ≡ operands_of 2 (texts words.now) }
+{
+    let (word, rest) = words.split_first()?;
+    if ends_options(word) {
+        return two_words(rest);
+    }
+    if is_option(word) {
+        return None;
+    }
+    Some((*word, one_operand(rest)?))
+}
+
+fn one_word<'a>(words: &[&'a str]) -> Option<&'a str>
+    ensures { one_of result ≡ exactly 1 (texts words.now) }
+{
+    match words {
+        [word] => Some(*word),
+        _ => None,
+    }
+}
+
+fn two_words<'a>(words: &[&'a str]) -> Option<(&'a str, &'a str)>
+    ensures { two_of result ≡ exactly 2 (texts words.now) }
+{
+    match words {
+        [first, second] => Some((*first, *second)),
+        _ => None,
+    }
+}
+
+/// Whether the first option asks for help, and at most this many operands stand before it.
+pub(crate) fn asks_help_within(operands: u8, words: &[&str]) -> bool
+    ensures { result ≡ asks_help_within operands (texts words.now) }
+{
+    let Some((word, rest)) = words.split_first() else {
+        return false;
+    };
+    if ends_options(word) {
+        return false;
+    }
+    if is_option(word) {
+        return is_help(word);
+    }
+    operands > 0 && asks_help_within(operands - 1, rest)
+}

@@ -1,0 +1,107 @@
+//! The table of commands, as words are read by it.
+ghost use Rattle.std.specs.Prelude.{◌≡◌, option_map};
+ghost use Rattle.lb_cli_words.specs.Words.{asks_help_with, texts};
+ghost use Rattle.lb_cli_words.specs.Table.{asks_help, asks_help_behind, reader_of, row_behind, row_in, row_of};
+ghost use Rattle.lb_cli_words.specs.Table.{check_row, plan_row, replay_row, verify_row, version_row};
+ghost use Rattle.lb_cli_words.specs.declared.own_option.OwnOption.TheVariants.{File};
+
+use crate::Job;
+use crate::operands::{asks_help_within, is_end, one_operand, two_operands};
+use crate::own_option::OwnOption;
+use crate::word::is_help;
+
+/// The job whose row the words are.
+pub(crate) fn job_of<'a>(words: &'a [&'a str]) -> Option<Job<'a>>
+    ensures { option_map row_of result ≡ row_in (texts words.now) }
+{
+    let (_, words) = words.split_first()?;
+    let (command, words) = words.split_first()?;
+    job_behind(command, words)
+}
+
+fn job_behind<'a>(command: &str, words: &'a [&'a str]) -> Option<Job<'a>>
+    ensures { option_map row_of result ≡ row_behind command.now (texts words.now) }
+{
+    match command {
+        "verify" => verify(words),
+        "plan" => plan(words),
+        "check" => check(words),
+        "replay" => replay(words),
+        "--version" => version(words),
+        _ => None,
+    }
+}
+
+fn verify<'a>(words: &'a [&'a str]) -> Option<Job<'a>>
+    ensures { option_map row_of result ≡ verify_row (texts words.now) }
+{
+    if let Some(file) = one_operand(words) {
+        return Some(Job::Verify { file });
+    }
+    let (sheet, plan) = OwnOption::Sheet.files_with(words)?;
+    let sheet = sheet?;
+    Some(Job::VerifyForSheet { sheet, plan })
+}
+
+fn plan<'a>(words: &'a [&'a str]) -> Option<Job<'a>>
+    ensures { option_map row_of result ≡ plan_row (texts words.now) }
+{
+    if let Some(file) = one_operand(words) {
+        return Some(Job::Plan { file });
+    }
+    let (_, file) = OwnOption::Table.files_with(words)?;
+    Some(Job::PlanTable { file })
+}
+
+fn check<'a>(words: &'a [&'a str]) -> Option<Job<'a>>
+    ensures { option_map row_of result ≡ check_row (texts words.now) }
+{
+    let given = OwnOption::File.read(words)?;
+    let file = given.value?;
+    is_end(given.rest).then_some(Job::Check { file })
+}
+
+fn replay<'a>(words: &'a [&'a str]) -> Option<Job<'a>>
+    ensures { option_map row_of result ≡ replay_row (texts words.now) }
+{
+    let (config, script) = two_operands(words)?;
+    Some(Job::Replay { config, script })
+}
+
+fn version<'a>(words: &[&str]) -> Option<Job<'a>>
+    ensures { option_map row_of result ≡ version_row (texts words.now) }
+{
+    words.is_empty().then_some(Job::Version)
+}
+
+/// Whether the words ask for help, on the program or on a command.
+pub(crate) fn asks_help(words: &[&str]) -> bool
+    ensures { result ≡ asks_help (texts words.now) }
+{
+    match words {
+        [_, command, others @ ..] => is_help(command) || asks_help_behind(command, others),
+        _ => false,
+    }
+}
+
+fn asks_help_behind(command: &str, words: &[&str]) -> bool
+    ensures { result ≡ asks_help_behind command.now (texts words.now) }
+{
+    match command {
+        "verify" => asks_help_within(1, words) || OwnOption::Sheet.asks_help(words),
+        "plan" => asks_help_within(1, words) || OwnOption::Table.asks_help(words),
+        "check" => asks_help_within(0, words) || check_asks_help(words),
+        "replay" => asks_help_within(2, words),
+        _ => false,
+    }
+}
+
+/// Whether help is asked for behind the file of `check`.
+fn check_asks_help(words: &[&str]) -> bool
+    ensures { result ≡ asks_help_with (reader_of File) 0 (texts words.now) }
+{
+    match OwnOption::File.read(words) {
+        Some(given) => asks_help_within(0, given.rest),
+        None => false,
+    }
+}

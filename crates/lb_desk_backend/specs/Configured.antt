@@ -1,0 +1,57 @@
+-- The backend that the machine opens with, of a backend of the configuration: HAProxy Configuration Manual 2.8, section 4.2
+-- (`balance`, `option allbackups`, `stick-table`, `server`) and section 5.2. Addresses, checks, times, rules and the keys of pins
+-- are no part of the machine.
+use Rattle.std.specs.Prelude.{◌≡◌, ℕ, Bool, List, Option, map}
+use Rattle.std.specs.Option.{option_map}
+use Rattle.lb_config_keywords.specs.declared.balance.Balance.{Balance as ConfiguredBalance}
+use Rattle.lb_config_keywords.specs.declared.balance.Balance.TheVariants as Configured
+use Rattle.lb_config_parameters.specs.TableViews.{StickTableView}
+use Rattle.lb_config_values.specs.ServerView.{ServerView, SettingsView, settings_view}
+use Rattle.lb_config.specs.ConfigViews.{BackendView}
+use Rattle.lb_desk_model.specs.declared.backend.BackendServer.{BackendServer}
+use Rattle.lb_desk_model.specs.declared.backend.TableSettings.{TableSettings}
+use Rattle.lb_desk_model.specs.declared.balance.Balance.{Balance}
+use Rattle.lb_desk_model.specs.declared.balance.Balance.TheVariants as Machine
+use Rattle.lb_desk_model.specs.Backends.{BackendParts}
+
+abbrev pub balance_of : ConfiguredBalance → Balance
+balance_of Configured.RoundRobin = Machine.RoundRobin
+balance_of Configured.LeastConnections = Machine.LeastConnections
+balance_of Configured.First = Machine.First
+
+-- how many pins a table holds, after how many milliseconds without a use a pin may go, and whether a full table keeps its pins
+pub record TableParts : Type 0 where
+  pub size : ℕ
+  pub expire : Option ℕ
+  pub no_purge : Bool
+
+-- a table without the facts of its ranges
+abbrev pub table_parts : TableSettings → TableParts
+table_parts table = record { size = table.size; expire = table.expire; no_purge = table.no_purge }
+
+-- what `stick-table` says of them; the type of its keys is left to those who make keys
+abbrev pub configured_table : StickTableView → TableParts
+configured_table table = record { size = table.size; expire = table.expire; no_purge = table.is_nopurge }
+
+-- a server's name, and the settings that it begins with
+pub record ServerParts : Type 0 where
+  pub name : List ℕ
+  pub settings : SettingsView
+
+-- a server without the facts of its ranges
+abbrev pub server_parts : BackendServer → ServerParts
+server_parts server = record { name = server.name; settings = settings_view server.settings }
+
+abbrev pub configured_server : ServerView → ServerParts
+configured_server server = record { name = server.name; settings = server.settings }
+
+-- the backend is the configured one: it picks by the same balance, has the same table, and the same servers in the same order
+pub record IsBackendOf (config : BackendView) (backend : BackendParts) : Type 0 where
+  pub balance : backend.balance ≡ balance_of config.balance
+  pub all_backups : backend.all_backups ≡ config.all_backups
+  pub table : option_map table_parts backend.table ≡ option_map configured_table config.rules.table
+  pub servers : map server_parts backend.servers ≡ map configured_server config.servers
+
+-- a configured backend is one backend of the machine, and so has one opening state
+abbrev pub OpensAsOneBackend : Type 0
+OpensAsOneBackend = (config : BackendView) (a b : BackendParts) → IsBackendOf config a → IsBackendOf config b → a ≡ b

@@ -1,0 +1,41 @@
+ghost use Rattle.std.specs.Prelude.{◌≡◌, IfOk};
+ghost use Rattle.lb_desk_model.specs.Worn.{open_at};
+
+use crate::backend_core::Core;
+use lb_desk_model::TablePin;
+use lb_types::ServerId;
+use std::alloc::{AllocError, Global};
+use std::hash::BuildHasher;
+
+impl<S: BuildHasher> Core<S> {
+    /// How often the view that planners see has changed.
+    pub fn version(&self) -> u64
+        ensures { result ≡ self.now.shown.version }
+    {
+        self.parts.table.version()
+    }
+
+    /// How many requests were served through a pin.
+    pub fn uses(&self) -> u64
+        ensures { result ≡ self.now.uses }
+    {
+        self.parts.table.uses()
+    }
+
+    /// Copies of the pins, in order of last use, the one that wasn't used for longest first; none where the backend has no table.
+    ///
+    /// It costs one walk over the pins and a copy of each key. It takes memory for the list and for the keys that are text, of
+    /// which want is its one error.
+    pub fn table_rows(&self, alloc: Global) -> Result<Vec<TablePin>, AllocError>
+        ensures exact { IfOk result (λ rows. rows.items ≡ self.now.shown.pins) }
+    {
+        self.parts.table.rows(alloc)
+    }
+
+    /// How many connections are open at the server; 0 where there is no such server.
+    pub fn connections(&self, server: ServerId) -> u64
+        ensures { result ≡ open_at self.now.shown server }
+    {
+        self.parts.book.connections(server)
+    }
+}

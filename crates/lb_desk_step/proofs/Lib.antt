@@ -1,0 +1,3 @@
+pub mod Planned
+pub mod Running
+pub mod Stepping

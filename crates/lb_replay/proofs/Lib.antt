@@ -1,0 +1,5 @@
+pub mod Going
+pub mod LastPlans
+pub mod Outcomes
+pub mod PiecesRead
+pub mod Written

@@ -1,0 +1,6 @@
+pub mod Answers
+pub mod Days
+pub mod Farms
+pub mod Pieces
+pub mod Replays
+pub mod Steps

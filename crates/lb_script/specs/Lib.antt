@@ -1,0 +1,5 @@
+pub mod Backends
+pub mod Lines
+pub mod Operators
+pub mod Requests
+pub mod Words
