@@ -312,10 +312,7 @@ const WRONG_WITH_OPTIONS: [(&[&str], ErrorKind); 7] = [
 
 /// Wrong words of `replay`.
 const WRONG_OF_REPLAY: [(&[&str], ErrorKind); 4] = [
-    (
-        &["stickylb", "replay"],
-        ErrorKind::MissingRequiredArgument,
-    ),
+    (&["stickylb", "replay"], ErrorKind::MissingRequiredArgument),
     (
         &["stickylb", "replay", "a"],
         ErrorKind::MissingRequiredArgument,

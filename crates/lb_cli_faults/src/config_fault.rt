@@ -16,11 +16,7 @@ pub fn config_fault_line(alloc: Global, fault: &LocatedFault) -> Result<Vec<u8>,
 }
 
 /// Puts `line N: ` behind the text.
-pub fn push_line_label(
-    alloc: Global,
-    text: &mut Vec<u8>,
-    line: u32,
-) -> Result<(), AllocError>
+pub fn push_line_label(alloc: Global, text: &mut Vec<u8>, line: u32) -> Result<(), AllocError>
     ensures { OnOk result (text.new.items ≡ text.old.items ++ line_label line) }
 {
     text.extend_from_slice(b"line ")?;

@@ -54,7 +54,6 @@ answers_piece farm day line more said outcome says answers =
     (subst (λ (s : Option ScriptLine). Answers farm day (joined (piece_at farm line more)) s outcome) (sym says) answers)
 
 module _ (farm : FarmView) (all : List (List ℕ)) (old new : ReadingView) (day behind : DayView) (before mid after : Option (List ℕ)) where
-
   gone_piece : HasGone farm all old day before mid → (left : List (List ℕ)) → old.left ≡ Some left → (said : ScriptLine) → HasPiece farm left old said new
       → Does (Answers farm day new.piece (Some said)) behind mid after → HasGone farm all new behind before after
   gone_piece gone left is said piece did =

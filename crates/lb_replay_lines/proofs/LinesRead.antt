@@ -68,14 +68,17 @@ ReadSoFar (Some lines) old new = (now : List (List ℕ)) × HasRead lines now ol
 
 pub so_far_none : (left : Option (List (List ℕ))) (v : ReadingView) → v.left ≡ left → ReadSoFar left v v
 so_far_none None v is = tt
-so_far_none (Some lines) v is = (lines, record {
-  done = [];
-  left = is;
-  through = refl;
-  behind = refl;
-  piece = sym (append-nil v.piece);
-  count = omega arith;
-})
+so_far_none (Some lines) v is = (
+  lines,
+  record {
+    done = [];
+    left = is;
+    through = refl;
+    behind = refl;
+    piece = sym (append-nil v.piece);
+    count = omega arith;
+  },
+)
 
 -- the line that was added, as the piece's end
 added : (old line piece : List ℕ) → piece ≡ old ++ line → drop (length old) piece ≡ line
@@ -90,7 +93,6 @@ pieces old done line mid new before more =
 
 module _ (lines now more : List (List ℕ)) (line : List ℕ) (old mid new : ReadingView) (h : HasRead lines now old mid)
     (split : now ≡ line ∷ more) (piece : new.piece ≡ mid.piece ++ line) (left : new.left ≡ Some more) (count : new.count ≡ mid.count + 1) where
-
   pub HasRead-more : is_end line ≡ false → HasRead lines more old new
   HasRead-more goes_on = record {
     done = h.done ++ line ∷ [];
@@ -107,8 +109,7 @@ module _ (lines now more : List (List ℕ)) (line : List ℕ) (old mid new : Rea
   HasRead-end ends =
       let through : through_end lines ≡ h.done ++ line ∷ [] =
       h.through ∙ ap (λ l. h.done ++ through_end l) split ∙ ap (λ b. h.done ++ cond b (line ∷ []) (line ∷ through_end more)) ends in
-      let behind : behind_end lines ≡ more = h.behind ∙ ap behind_end split ∙ ap (λ b. cond b more (behind_end more)) ends in
-      (
+      let behind : behind_end lines ≡ more = h.behind ∙ ap behind_end split ∙ ap (λ b. cond b more (behind_end more)) ends in (
         left ∙ ap Some (sym behind),
         pieces old.piece h.done line mid.piece new.piece h.piece piece ∙ ap (λ (ls : List (List ℕ)). old.piece ++ flat_map (λ l. l) ls) (sym through),
         omega (arith, h.count, count, length-append h.done (line ∷ []), ap length through),
@@ -141,8 +142,7 @@ so_far_whole None old mid new so_far end count = tt
 so_far_whole (Some lines) old mid new (now, h) end count =
     let none = subst (λ l. AtEnd l mid.piece new.piece new.left) h.left end in
     let through : through_end lines ≡ h.done = h.through ∙ ap (λ l. h.done ++ through_end l) none.0 ∙ append-nil h.done in
-    let behind : behind_end lines ≡ [] = h.behind ∙ ap behind_end none.0 in
-    (
+    let behind : behind_end lines ≡ [] = h.behind ∙ ap behind_end none.0 in (
       none.2 ∙ ap Some (sym behind),
       none.1 ∙ h.piece ∙ ap (λ (ls : List (List ℕ)). old.piece ++ flat_map (λ l. l) ls) (sym through),
       omega (arith, count, h.count, ap length through),
