@@ -7,7 +7,7 @@
 //!
 //! Promised: `Keeper::record` adds the entry to the history and its receipt to the pass, and `Keeper::settle`'s `share`.
 //! No history, entry or receipt exists at run time. Start at `Keeper`; the words are in `specs/Receipts.antt`. Private to
-//! `lb_desk_shared`, the desk of many threads, which is to come.
+//! `lb_desk_shared`, the desk of many threads.
 #![tactic(auto)]
 
 mod keeper;

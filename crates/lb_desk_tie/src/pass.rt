@@ -54,6 +54,13 @@ impl<E, B: Tables> Pass<E, B> {
         }
     }
 
+    /// The number of the keeper that gave it out.
+    pub fn keeper(&self) -> u64
+        ensures { result ≡ self.now.keeper }
+    {
+        self.keeper
+    }
+
     /// The receipt of an entry goes to the end of the pass, and the entry to the end of the history.
     pub(crate) fn add(&mut self, word: &Word<E>, seat: &mut KeeperSeat<E>, number: u64, entry: &E)
         requires table { seat.old.table_id ≡ B.table_of self.old.keeper }

@@ -1,0 +1,13 @@
+//! Where operators reach the balancer: a listener on an address or on a path of the file system, and its connections.
+//!
+//! Promised: nothing by a clause, since no clause says what the system does. Tested: who may connect to a path, that a socket which a
+//! dead program left is replaced, that one which somebody listens on and files of other kinds are left alone, that a stop is seen, and
+//! that the path is free again at the end. Start at `CommandListener`.
+#![tactic(auto)]
+
+mod listener;
+mod path;
+mod stream;
+
+pub use listener::CommandListener;
+pub use stream::CommandStream;

@@ -1,0 +1,11 @@
+//! What an operator's program knows of a backend: a trait whose contracts tell each call.
+//!
+//! Promised: a `Steer` is a `Mover`, and tells also which changes were commanded through it and what was replied, as entries of
+//! the backend's journal; calls that were refused are counted. Start at `Steer`, whose words are in `specs/Steering.antt`.
+#![tactic(auto)]
+
+mod journal;
+mod steer;
+
+pub use journal::JournalCopy;
+pub use steer::Steer;
