@@ -1,0 +1,89 @@
+ghost use Rattle.std.specs.Prelude.{◌≡◌, ◌∷◌, ◌++◌, [], List, Option, IfOk};
+ghost use Rattle.std.specs.Option.{option_to_list};
+ghost use Rattle.lb_desk_ports.specs.Calls.{Grows};
+ghost use Rattle.check_workers_loop.specs.Flips.{flip_by, flip_filed, flip_line, flip_of, flipped};
+
+use check_workers_round::Outcome;
+use lb_desk_ports::{Filed, Refused};
+use lb_types::ServerId;
+use rise_fall::Flip;
+use server_state::Checked;
+use std::alloc::{AllocError, Global};
+
+/// A server that a check made go up or down.
+#[derive(Clone, Copy, Debug, PartialEq, Eq, Hash)]
+pub struct Flipped {
+    pub server: ServerId,
+    /// Whether it is up now.
+    pub is_up: bool,
+}
+
+/// Who is told where a check makes a server go up or down, as a planner or a log.
+pub trait Flips<R> {
+    ghost use Rattle.check_workers_loop.specs.declared.flips.Flipped.{Flipped};
+
+    /// What was told, in its order, as far as it is recorded.
+    ghost told: { Self → Option (List Flipped) };
+
+    /// Is told of a flip. The next check waits for this to return.
+    fn tell(&mut self, rt: &R, flip: Flipped)
+        ensures told { Grows (told self.old) (told self.new) (flip ∷ []) };
+}
+
+/// Tells of the flip that the round made, if it made one.
+pub(crate) fn tell_flip<R, F: Flips<R>>(rt: &R, flips: &mut F, outcome: &Outcome)
+    ensures { Grows (F.told flips.old) (F.told flips.new) (option_to_list (flip_of outcome.now)) }
+{
+    if let Some(flip) = flip_of(outcome) {
+        flips.tell(rt, flip);
+    }
+}
+
+fn flip_of(outcome: &Outcome) -> Option<Flipped>
+    ensures { result ≡ flip_of outcome.now }
+{
+    match outcome {
+        Outcome::Made(made) => flip_filed(made.server, made.filed),
+        Outcome::NotDue(_) | Outcome::NoChecks => None,
+    }
+}
+
+fn flip_filed(server: ServerId, filed: Result<Filed, Refused>) -> Option<Flipped>
+    ensures { result ≡ flip_filed server filed }
+{
+    let Ok(Filed::Checked(Checked::Took(flip))) = filed else {
+        return None;
+    };
+    match flip {
+        Flip::Stays => None,
+        Flip::WentUp => Some(Flipped {
+            server,
+            is_up: true,
+        }),
+        Flip::WentDown => Some(Flipped {
+            server,
+            is_up: false,
+        }),
+    }
+}
+
+/// The line that says of this server of this backend that it went up or down, as `Server web/s1 is DOWN`, with its newline. The error is
+/// want of memory.
+pub fn flip_line(
+    alloc: Global,
+    backend: &[u8],
+    server: &[u8],
+    is_up: bool,
+) -> Result<Vec<u8>, AllocError>
+    ensures { IfOk result (λ line. line.items ≡ flip_line backend.now server.now is_up) }
+{
+    let mut line = Vec::new(alloc);
+    line.extend_from_slice(b"Server ")?;
+    line.extend_from_slice(backend)?;
+    line.extend_from_slice(b"/")?;
+    line.extend_from_slice(server)?;
+    line.extend_from_slice(b" is ")?;
+    line.extend_from_slice(if is_up { b"UP".as_slice() } else { b"DOWN" })?;
+    line.extend_from_slice(b"\n")?;
+    Ok(line)
+}

@@ -1,0 +1,2 @@
+pub mod FrontendRoutesView
+pub mod RequestsOf
