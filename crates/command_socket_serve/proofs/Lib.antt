@@ -1,0 +1,5 @@
+pub mod Answering
+pub mod Placing
+pub mod Printings
+pub mod Reading
+pub mod Telling

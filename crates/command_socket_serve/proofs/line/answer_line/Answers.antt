@@ -1,0 +1,18 @@
+use Rattle.std.proofs.Common.{Ok, inr, refl}
+use Rattle.lb_desk_ports.specs.declared.refused.Refused.TheVariants.{Memory}
+use Rattle.command_socket_serve.specs.Answers.{refused_line}
+use Rattle.command_socket_serve.specs.Lines.{empty_line, ended}
+use Rattle.command_socket_serve.specs.Outcomes.{only_text}
+use Rattle.command_socket_serve.proofs.Printings.{prints_then}
+use Rattle.command_socket_serve.proofs.Telling.{grows_none}
+use Rattle.command_socket_serve.proofs.line.answer_line.Goals as goal
+
+pub returns-in_default-clause-answers : goal.returns-in_default-clause-answers
+returns-in_default-clause-answers g c = record {
+  outcome = ended (only_text (refused_line Memory));
+  is = inr (record { outcome_is = refl; kept = refl; goes_on = refl });
+  told = grows_none (g.T.Told.told c.args.told.now);
+  prints =
+      prints_then c.args.out.now c.print_refused-printed.new.out c.print_end.new.out (Ok tt) c.print_refused-printed.result c.print_end.result
+      (refused_line Memory) empty_line c.print_refused-printed.ensures c.print_end.ensures;
+}

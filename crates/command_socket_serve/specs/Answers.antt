@@ -1,0 +1,118 @@
+-- What an operator is answered to one command, and what that asks of the desks. Which commands there are is in `command_socket`. All
+-- texts are those of `lb_answers`; that a change which is made has no text is as in HAProxy's Management Guide 2.8, section 9.3.
+use Rattle.std.specs.Prelude.{◌≡◌, ◌⊎◌, ◌<◌, ⊤, ℕ, Bool, true, false, List, [], ◌∷◌, ◌++◌, Some, Result, Ok, Err, codes, slice_get, if◌then◌else◌}
+use Rattle.server_state.specs.declared.change.Change.{Change}
+use Rattle.command_socket_words.specs.Faults.{fault_text}
+use Rattle.command_socket_words.specs.declared.command.Command.{Command}
+use Rattle.command_socket_words.specs.declared.command.Shown.{Shown}
+use Rattle.command_socket_words.specs.declared.command.Shown.TheVariants as Show
+use Rattle.command_socket_words.specs.declared.fault.CommandFault.{CommandFault}
+use Rattle.command_socket.specs.Resolved.{resolved}
+use Rattle.command_socket.specs.declared.resolved.Resolved.{Resolved}
+use Rattle.command_socket.specs.declared.resolved.Resolved.TheVariants as Is
+use Rattle.lb_config.specs.ConfigViews.{ConfigView}
+use Rattle.lb_desk_model.specs.declared.entry.Entry.{Entry}
+use Rattle.lb_desk_model.specs.declared.reply.Reply.{Reply}
+use Rattle.lb_desk_model.specs.declared.reply.Reply.TheVariants.{Done}
+use Rattle.lb_desk_model.specs.declared.table_pin.TablePin.{TablePin}
+use Rattle.lb_desk_ports.specs.declared.refused.Refused.{Refused}
+use Rattle.lb_desk_ports.specs.declared.refused.Refused.TheVariants.{Memory, Worn}
+use Rattle.lb_desk_steer.specs.Steering.{commanding_entries}
+use Rattle.lb_desk_evacuate.specs.Evacuations.{Evacuates}
+use Rattle.lb_desk_evacuate.specs.declared.evacuating.Evacuation.{Evacuation}
+use Rattle.lb_desk_evacuate.specs.declared.evacuating.Evacuation.TheVariants as evacuation
+use Rattle.lb_answers.specs.declared.named_backend.NamedBackend.{NamedBackend}
+use Rattle.lb_answers.specs.Journals.{journal_text, last_installed, plan_text}
+use Rattle.lb_answers.specs.Replies.{reply_text}
+use Rattle.lb_answers.specs.Scores.{score_text}
+use Rattle.lb_answers.specs.Tables.{table_text}
+use Rattle.command_socket_serve.specs.Consoles.{ConsoleView}
+use Rattle.command_socket_serve.specs.Desks.{AtDesk, DeskSeen}
+use Rattle.command_socket_serve.specs.Outcomes.{Outcome, no_outcome, only_text}
+
+-- the line of a call that was refused
+abbrev pub refused_line : Refused → List ℕ
+refused_line Memory = codes "out of memory\n"
+refused_line Worn = codes "81 Worn\n"
+
+-- ---- changes
+
+-- the change is made
+abbrev pub is_done : Reply → Bool
+is_done Done = true
+is_done _ = false
+
+abbrev pub is_made : Result Reply Refused → Bool
+is_made (Ok reply) = is_done reply
+is_made (Err refused) = false
+
+-- a change that is made has no line
+abbrev pub change_text : NamedBackend → ℕ → Result Reply Refused → List ℕ
+change_text named server (Ok reply) = if is_done reply then [] else reply_text named.servers.now (Some server) reply ++ codes "\n"
+change_text named server (Err refused) = refused_line refused
+
+-- a change is asked of the desk of the backend at the place, in one event
+pub record Changes (named : NamedBackend) (place : ℕ) (change : Change) (old new : DeskSeen) (outcome : Outcome) : Type 0 where
+  pub reply : Result Reply Refused
+  pub entries : new.entries ≡ old.entries ++ commanding_entries change reply
+  pub planned_now : new.planned_now ≡ old.planned_now
+  pub text : outcome.text ≡ change_text named change.server reply
+  pub changed : outcome.changed ≡ (if is_made reply then place ∷ [] else [])
+
+-- ---- plans
+
+abbrev pub evacuation_text : Result Evacuation Refused → List ℕ
+evacuation_text (Ok (evacuation.Done score)) = score_text score ++ codes "\n"
+evacuation_text (Ok evacuation.AllStale) = codes "stale\n"
+evacuation_text (Err refused) = refused_line refused
+
+-- pins are moved off the servers of a backend, in at most so many tries
+pub record Plans (tries : ℕ) (old new : DeskSeen) (text : List ℕ) : Type 0 where
+  pub answer : Result Evacuation Refused
+  pub evacuates : Evacuates tries answer old.entries new.entries old.planned_now new.planned_now
+  pub text_is : text ≡ evacuation_text answer
+
+-- ---- what is shown
+
+-- What is shown of a backend: of pins, or of entries of its journal, as its desk gave them. No event tells which these are
+abbrev pub IsShown : NamedBackend → Shown → List ℕ → Type 0
+IsShown named Show.Table text =
+    (pins : List TablePin) × (text ≡ table_text named.name named.servers.now named.table pins)
+IsShown named Show.Plan text = (entries : List Entry) × (text ≡ plan_text (last_installed entries))
+IsShown named Show.Journal text =
+    (first : ℕ) × (entries : List Entry) × (text ≡ journal_text named.name named.servers.now first entries)
+
+-- it is shown, or there is not memory enough for a copy
+abbrev pub Shows : NamedBackend → Shown → List ℕ → Type 0
+Shows named what text = IsShown named what text ⊎ (text ≡ refused_line Memory)
+
+-- ---- a command
+
+-- the command names a backend of these
+abbrev pub NamesOneOf : ℕ → Resolved → Type 0
+NamesOneOf count (Is.Change place change) = place < count
+NamesOneOf count (Is.Plan place) = place < count
+NamesOneOf count (Is.Show what place) = place < count
+NamesOneOf count Is.Stop = ⊤
+
+-- what a command comes to whose names are known
+abbrev pub CarriesOut : {D : Type 0} → (D → DeskSeen) → ConsoleView → Resolved → List D → List D → Outcome → Type 0
+CarriesOut seen console (Is.Change place change) desks used outcome =
+    (named : NamedBackend) × (slice_get console.names place ≡ Some named)
+    × AtDesk seen place desks used (λ old new. Changes named place change old new outcome)
+CarriesOut seen console (Is.Plan place) desks used outcome =
+    AtDesk seen place desks used (λ old new. Plans console.config.tries old new outcome.text) × (outcome.changed ≡ [])
+CarriesOut seen console (Is.Show what place) desks used outcome =
+    (named : NamedBackend) × (slice_get console.names place ≡ Some named) × Shows named what outcome.text
+    × (outcome.changed ≡ []) × (used ≡ desks)
+CarriesOut seen console Is.Stop desks used outcome = (outcome ≡ no_outcome) × (used ≡ desks)
+
+-- the command with its backend and its server, or its fault
+abbrev pub looked_up : ConfigView → Result Command CommandFault → Result Resolved CommandFault
+looked_up config (Ok command) = resolved config command
+looked_up config (Err fault) = Err fault
+
+-- what a command comes to, or what is told in its place
+abbrev pub Answers : {D : Type 0} → (D → DeskSeen) → ConsoleView → Result Resolved CommandFault → List D → List D → Outcome → Type 0
+Answers seen console (Ok command) desks used outcome = CarriesOut seen console command desks used outcome
+Answers seen console (Err fault) desks used outcome = (outcome ≡ only_text (fault_text fault ++ codes "\n")) × (used ≡ desks)

@@ -1,0 +1,20 @@
+-- The desks of backends, as one sees them who carries out commands.
+use Rattle.std.specs.Prelude.{◌≡◌, ℕ, List, Some, slice_get, slice_set}
+use Rattle.lb_desk_model.specs.declared.entry.Entry.{Entry}
+
+pub record DeskSeen : Type 0 where
+  -- the events that were made, each with its reply
+  pub entries : List Entry
+  -- how often it was asked to plan while everyone else waits
+  pub planned_now : ℕ
+
+abbrev pub desk_seen : {D : Type 0} → (D → List Entry) → (D → ℕ) → D → DeskSeen
+desk_seen entries planned_now desk = record { entries = entries desk; planned_now = planned_now desk }
+
+-- this was done at the desk of the backend at the place, and nothing at any other one
+pub record AtDesk {D : Type 0} (seen : D → DeskSeen) (place : ℕ) (desks used : List D) (Is : DeskSeen → DeskSeen → Type 0) : Type 0 where
+  pub old : D
+  pub new : D
+  pub there : slice_get desks place ≡ Some old
+  pub others : used ≡ slice_set desks place new
+  pub is : Is (seen old) (seen new)

@@ -1,0 +1,5 @@
+pub mod Answers
+pub mod Consoles
+pub mod Desks
+pub mod Lines
+pub mod Outcomes

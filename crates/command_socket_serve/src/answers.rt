@@ -1,0 +1,169 @@
+ghost use Rattle.std.specs.Prelude.{◌≡◌, ◌++◌, Some, length, codes};
+ghost use Rattle.lb_answers.specs.Replies.{reply_text};
+ghost use Rattle.command_socket_serve.specs.Answers.{Answers, CarriesOut, Changes, NamesOneOf, Plans, is_done, looked_up};
+ghost use Rattle.command_socket_serve.specs.Desks.{desk_seen};
+ghost use Rattle.command_socket_serve.specs.Lines.{ended};
+ghost use Rattle.command_socket_serve.specs.Outcomes.{Does, Says, PrintsOn};
+ghost use Rattle.command_socket_words.specs.Faults.{fault_text};
+
+use crate::printing::{Printed, print, print_refused};
+use crate::shows::show;
+use crate::{Console, Told};
+use command_socket::{Command, CommandFault, Resolved, look_up};
+use lb_answers::{Answer, NamedBackend};
+use lb_config::Config;
+use lb_desk_evacuate::{Evacuation, evacuate};
+use lb_desk_model::Reply;
+use lb_desk_ports::Gate;
+use lb_desk_steer::Steer;
+use lb_types::ServerId;
+use lb_types_counted::Counted;
+use server_state::Change;
+use std::alloc::Global;
+use std::io::Write;
+
+/// Carries out a command, or tells its fault, and prints its answer without the empty line behind it.
+pub(crate) fn answer<R, S: Steer<R>, G: Gate<R>, T: Told, W: Write>(
+    rt: &R,
+    alloc: Global,
+    console: &Console<'_, G>,
+    desks: &mut [S],
+    told: &mut T,
+    said: &Result<Command, CommandFault>,
+    out: &mut Counted<W>,
+    sent: Printed,
+) -> Printed
+    requires { length desks.old ≡ length console.now.config.backends }
+    ensures answers { Does (Answers (desk_seen S.entries S.planned_now) console.now (looked_up console.now.config said.now) desks.old desks.new)
+        (T.told told.old) (T.told told.new) out.old sent out.new result }
+    ensures seats { length desks.new ≡ length desks.old }
+{
+    match look_up_said(console.config(), said) {
+        Ok(command) => carry_out(rt, alloc, console, desks, told, command, out, sent),
+        Err(fault) => print_fault(out, sent, fault),
+    }
+}
+
+/// The command with its backend and its server, or its fault.
+fn look_up_said(
+    config: &Config,
+    said: &Result<Command, CommandFault>,
+) -> Result<Resolved, CommandFault>
+    ensures { result ≡ looked_up config.now said.now }
+{
+    match said {
+        Ok(command) => look_up(config, command),
+        Err(fault) => Err(*fault),
+    }
+}
+
+/// Prints why a command was not taken.
+#[tactic(auto, unfolding(lb_answers::specs::Answers::answer_text))]
+fn print_fault<W: Write>(out: &mut Counted<W>, sent: Printed, fault: CommandFault) -> Printed
+    ensures { PrintsOn out.old sent out.new result (fault_text fault ++ codes "\n") }
+{
+    print(out, sent, &Answer::CommandFault(fault))
+}
+
+/// Carries out a command whose names are known.
+fn carry_out<R, S: Steer<R>, G: Gate<R>, T: Told, W: Write>(
+    rt: &R,
+    alloc: Global,
+    console: &Console<'_, G>,
+    desks: &mut [S],
+    told: &mut T,
+    command: Resolved,
+    out: &mut Counted<W>,
+    sent: Printed,
+) -> Printed
+    requires seats { length desks.old ≡ length console.now.config.backends }
+    requires names { NamesOneOf (length console.now.config.backends) command }
+    ensures carries_out { Does (CarriesOut (desk_seen S.entries S.planned_now) console.now command desks.old desks.new)
+        (T.told told.old) (T.told told.new) out.old sent out.new result }
+    ensures seats { length desks.new ≡ length desks.old }
+{
+    match command {
+        Resolved::Change(place, asked) => {
+            let named = &console.names()[place];
+            let desk = &mut desks[place];
+            change(rt, named, place, desk, told, &asked, out, sent)
+        }
+        Resolved::Plan(place) => {
+            let tries = u32::from(console.config().tries());
+            let desk = &mut desks[place];
+            plan(rt, alloc, desk, console.gate(), tries, out, sent)
+        }
+        Resolved::Show(what, place) => {
+            let named = &console.names()[place];
+            show(rt, alloc, named, &desks[place], what, out, sent)
+        }
+        Resolved::Stop => sent,
+    }
+}
+
+/// Asks for a change to a server of the backend at the place, tells whom it concerns where it is made, and else prints why not.
+fn change<R, S: Steer<R>, T: Told, W: Write>(
+    rt: &R,
+    named: &NamedBackend<'_>,
+    place: usize,
+    desk: &mut S,
+    told: &mut T,
+    asked: &Change,
+    out: &mut Counted<W>,
+    sent: Printed,
+) -> Printed
+    ensures { Does (Changes named.now place asked.now (desk_seen S.entries S.planned_now desk.old) (desk_seen S.entries S.planned_now desk.new))
+        (T.told told.old) (T.told told.new) out.old sent out.new result }
+{
+    let reply = match desk.command(rt, *asked) {
+        Ok(reply) => reply,
+        Err(refused) => return print_refused(out, sent, refused),
+    };
+    if is_done(&reply) {
+        told.changed(place);
+        return sent;
+    }
+    print_reply(out, sent, named, asked.server, &reply)
+}
+
+/// Whether the change is made.
+fn is_done(reply: &Reply) -> bool
+    ensures { result ≡ is_done reply.now }
+{
+    matches!(reply, Reply::Done)
+}
+
+/// Prints why a change was not made.
+#[tactic(auto, unfolding(lb_answers::specs::Answers::answer_text))]
+fn print_reply<W: Write>(
+    out: &mut Counted<W>,
+    sent: Printed,
+    named: &NamedBackend<'_>,
+    server: ServerId,
+    reply: &Reply,
+) -> Printed
+    ensures { PrintsOn out.old sent out.new result (reply_text named.now.servers.now (Some server) reply.now ++ codes "\n") }
+{
+    print(out, sent, &Answer::Reply(named, Some(server), reply))
+}
+
+/// Moves pins off the servers of a backend, and prints what that came to.
+#[tactic(auto, unfolding(lb_answers::specs::Answers::answer_text))]
+fn plan<R, S: Steer<R>, G: Gate<R>, W: Write>(
+    rt: &R,
+    alloc: Global,
+    desk: &mut S,
+    gate: &G,
+    tries: u32,
+    out: &mut Counted<W>,
+    sent: Printed,
+) -> Printed
+    ensures { Says (Plans tries (desk_seen S.entries S.planned_now desk.old) (desk_seen S.entries S.planned_now desk.new))
+        out.old sent out.new result }
+{
+    match evacuate(rt, alloc, desk, gate, tries) {
+        Ok(Evacuation::Done(score)) => print(out, sent, &Answer::Evacuated(score)),
+        Ok(Evacuation::AllStale) => print(out, sent, &Answer::AllStale),
+        Err(refused) => print_refused(out, sent, refused),
+    }
+}

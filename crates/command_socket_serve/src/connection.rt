@@ -1,0 +1,87 @@
+ghost use Rattle.std.specs.Prelude.{◌≡◌, length, IfOk};
+ghost use Rattle.command_socket_serve.specs.Desks.{desk_seen};
+ghost use Rattle.std.specs.Io.BufRead.{strip_last};
+ghost use Rattle.command_socket_serve.specs.Lines.{IsTextOf, Serves, line_in};
+
+use crate::line::{Next, answer_line};
+use crate::{Console, Told};
+use lb_desk_ports::Gate;
+use lb_desk_steer::Steer;
+use lb_types_counted::Counted;
+use std::alloc::Global;
+use std::io;
+use std::io::{BufRead, BufReader, BufWriter, Read, Write};
+use std::net::OpenStream;
+use std::time::Duration;
+
+/// How many milliseconds a client may say nothing, or take nothing, before it is let go.
+pub const MOST_SILENT_MILLIS: u64 = 5000;
+
+/// How many bytes are read at most: a longest line, the two bytes of its end, and none more.
+const MOST_READ: u64 = 4098;
+
+/// Answers the one line of a connection, which is ended by a line feed, by a carriage return and a line feed, or by the end of what the
+/// client sends. The caller closes the connection. There is a desk for each backend of the configuration, in its order.
+///
+/// A line of more than 4,096 bytes is answered as one `100 UnknownCommand`; what stands behind the first 4,098 bytes is not read. A client
+/// that says nothing for `MOST_SILENT_MILLIS`, or whose connection fails, is let go without an answer, and nothing is carried out.
+pub fn serve_connection<R, S: Steer<R>, G: Gate<R>, T: Told, C: Read + Write + OpenStream>(
+    rt: &R,
+    alloc: Global,
+    console: &Console<'_, G>,
+    desks: &mut [S],
+    told: &mut T,
+    stream: &mut C,
+) -> Next
+    requires { length desks.old ≡ length console.now.config.backends }
+    ensures serves { Serves (desk_seen S.entries S.planned_now) console.now (C.remaining stream.old) desks.old desks.new
+        (T.told told.old) (T.told told.new) result }
+    ensures seats { length desks.new ≡ length desks.old }
+{
+    let Ok(text) = read_text(alloc, stream) else {
+        return Next::GoOn;
+    };
+    let line = line_in(&text);
+    let Ok(buffered) = BufWriter::new(alloc, &mut *stream) else {
+        let mut out = Counted::new(stream);
+        return answer_line(rt, alloc, console, desks, told, line, &mut out).next;
+    };
+    let mut out = Counted::new(buffered);
+    let answered = answer_line(rt, alloc, console, desks, told, line, &mut out);
+    // A client that doesn't take its answer changes nothing for others.
+    let _ = out.flush();
+    answered.next
+}
+
+/// Reads the first line of a connection, with its end. It takes memory for 8,192 bytes beside the line.
+fn read_text<C: Read + OpenStream>(alloc: Global, stream: &mut C) -> io::Result<Vec<u8>>
+    ensures { IfOk result (λ text. IsTextOf (C.remaining stream.old) text.items) }
+{
+    let silent = Some(Duration::from_millis(MOST_SILENT_MILLIS));
+    stream.set_read_timeout(silent)?;
+    stream.set_write_timeout(silent)?;
+    let mut text = Vec::new(alloc);
+    let mut reader = BufReader::new(alloc, stream.take(MOST_READ))?;
+    reader.read_until(b'\n', &mut text)?;
+    Ok(text)
+}
+
+/// The line without its end.
+fn line_in(text: &[u8]) -> &[u8]
+    ensures { result.now ≡ line_in text.now }
+{
+    match text.split_last() {
+        Some((&b'\n', line)) => without_return(line),
+        _ => text,
+    }
+}
+
+/// The line without a carriage return at its end.
+fn without_return(line: &[u8]) -> &[u8]
+    ensures { result.now ≡ strip_last 13 line.now }
+{
+    match line.split_last() {
+        Some((&b'\r', rest)) => rest,
+        _ => line,
+    }
+}

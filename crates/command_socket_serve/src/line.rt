@@ -1,0 +1,114 @@
+ghost use Rattle.std.specs.Prelude.{◌≡◌, length, Ok};
+ghost use Rattle.std.specs.List.{list_any};
+ghost use Rattle.command_socket_serve.specs.Answers.{looked_up};
+ghost use Rattle.command_socket_serve.specs.Desks.{desk_seen};
+ghost use Rattle.command_socket_serve.specs.Lines.{AnswersLine, AreAnswered, next_behind, is_stop};
+ghost use Rattle.command_socket_serve.specs.Outcomes.{Does};
+
+use crate::answers::answer;
+use crate::printing::{Printed, print_end, print_refused};
+use crate::{Console, Told};
+use command_socket::{Command, CommandFault, read_commands};
+use dual_cert_write::WriteFailed;
+use lb_desk_ports::{Gate, Refused};
+use lb_desk_steer::Steer;
+use lb_types_counted::Counted;
+use std::alloc::Global;
+use std::io::Write;
+
+/// Whether the program goes on behind a line.
+#[derive(Clone, Copy, Debug, PartialEq, Eq)]
+pub enum Next {
+    /// It goes on.
+    GoOn,
+    /// The line had the command `stop`.
+    Stop,
+}
+
+/// What became of a line.
+#[derive(Clone, Copy, Debug, PartialEq, Eq)]
+pub struct Answered {
+    pub next: Next,
+    /// Whether the whole answer was printed. Where a write failed, all commands were carried out, and nothing more was printed.
+    pub printed: Result<(), WriteFailed>,
+}
+
+/// Carries out the commands of a line, one after another, and prints their answers: the text of each, and then an empty line. There is a
+/// desk for each backend of the configuration, in its order. The line is given without its end.
+///
+/// A change that is made has no text, and `told` is told of it; the fault of a command is its text. Where there is not memory enough for
+/// the line's commands, which are at most 2,048, none is carried out and `out of memory` is the one answer. A command that memory is
+/// wanting for has the same text, and those behind it are carried out all the same; so they are where a write failed. A command costs
+/// what it costs its desk, `plan` whole plannings, `show` a copy of what is shown. Nothing is flushed: give it a writer that buffers.
+pub fn answer_line<R, S: Steer<R>, G: Gate<R>, T: Told, W: Write>(
+    rt: &R,
+    alloc: Global,
+    console: &Console<'_, G>,
+    desks: &mut [S],
+    told: &mut T,
+    line: &[u8],
+    out: &mut Counted<W>,
+) -> Answered
+    requires { length desks.old ≡ length console.now.config.backends }
+    ensures answers { Does (AnswersLine (desk_seen S.entries S.planned_now) console.now line.now desks.old desks.new result.next)
+        (T.told told.old) (T.told told.new) out.old (Ok tt) out.new result.printed }
+    ensures seats { length desks.new ≡ length desks.old }
+{
+    let Ok(commands) = read_commands(alloc, line) else {
+        let printed = print_refused(out, Ok(()), Refused::Memory);
+        return Answered {
+            next: Next::GoOn,
+            printed: print_end(out, printed),
+        };
+    };
+    Answered {
+        printed: answer_all(rt, alloc, console, desks, told, &commands, out),
+        next: next_behind(&commands),
+    }
+}
+
+/// Whether the program goes on behind these commands.
+fn next_behind(commands: &[Result<Command, CommandFault>]) -> Next
+    ensures { result ≡ next_behind commands.now }
+{
+    if has_stop(commands) {
+        Next::Stop
+    } else {
+        Next::GoOn
+    }
+}
+
+fn has_stop(commands: &[Result<Command, CommandFault>]) -> bool
+    ensures { result ≡ list_any is_stop commands.now }
+{
+    commands.iter().any(|said| is_stop(said))
+}
+
+fn is_stop(said: &Result<Command, CommandFault>) -> bool
+    ensures { result ≡ is_stop said.now }
+{
+    matches!(said, Ok(Command::Stop))
+}
+
+/// Answers the commands one after another.
+fn answer_all<R, S: Steer<R>, G: Gate<R>, T: Told, W: Write>(
+    rt: &R,
+    alloc: Global,
+    console: &Console<'_, G>,
+    desks: &mut [S],
+    told: &mut T,
+    commands: &[Result<Command, CommandFault>],
+    out: &mut Counted<W>,
+) -> Printed
+    requires { length desks.old ≡ length console.now.config.backends }
+    ensures answers { Does (AreAnswered (desk_seen S.entries S.planned_now) console.now commands.now desks.old desks.new)
+        (T.told told.old) (T.told told.new) out.old (Ok tt) out.new result }
+    ensures seats { length desks.new ≡ length desks.old }
+{
+    let mut printed = Ok(());
+    for said in commands {
+        printed = answer(rt, alloc, console, desks, told, said, out, printed);
+        printed = print_end(out, printed);
+    }
+    printed
+}

@@ -1,0 +1,3 @@
+mod Copies
+mod Standing
+mod Receiving

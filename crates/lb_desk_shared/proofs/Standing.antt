@@ -1,0 +1,65 @@
+-- The desk stands at the keeper's history, behind each call.
+use Rattle.std.proofs.Common.{◌≡◌, ℕ, Bool, true, false, nat_lt, List, [], ◌∷◌, ◌++◌, length, Option, Some, None, if◌then◌else◌, refl, sym, ap, ◌∙◌, arith}
+use Rattle.std.proofs.lemmas.Bool.Decides.{nat_tests}
+use Rattle.std.specs.Option.{unwrap_or}
+use Rattle.lb_desk_model.specs.declared.entry.Entry.{Entry}
+use Rattle.lb_desk_model.specs.declared.event.Event.{Event}
+use Rattle.lb_desk_model.specs.declared.reply.Reply.{Reply}
+use Rattle.lb_desk_model.specs.Backends.{BackendParts}
+use Rattle.lb_desk_model.specs.Worn.{open_connections}
+use Rattle.lb_desk_step.specs.declared.taken.TakenPlan.{TakenPlan}
+use Rattle.lb_desk_step.specs.Desk.{DeskView, KeepsHeadline, StandsAt, Takes}
+use Rattle.lb_desk_step.specs.Planning.{TakesPlan}
+use Rattle.lb_desk_tie.specs.Receipts.{PassView, Shares, receipts_of}
+use Rattle.lb_desk_shared.specs.declared.closing.CloseFault.{CloseFault}
+use Rattle.lb_desk_shared.specs.declared.closing.CloseFault.TheVariants.{PassesOut, SlotsOut}
+use Rattle.lb_desk_shared.specs.Calls.{IsStepAt}
+use Rattle.lb_desk_shared.specs.Closing.{Closes, fault_of}
+use Rattle.lb_desk_shared.specs.Desks.{TiedView}
+
+pub some_same : {A : Type 0} (x y : A) → Some x ≡ Some y → x ≡ y
+some_same x y is = ap (λ o. unwrap_or o x) is
+
+-- the event is the next step of the history that the desk stands at
+pub is_step : (backend : BackendParts) (history : List Entry) (old new : DeskView) (number : ℕ) (event : Event) (reply : Reply)
+    → StandsAt backend history old → Takes old event reply new → number ≡ length history → IsStepAt backend number event reply
+is_step backend history old new number event reply at takes is =
+    let next = takes.steps at.reaches.state at.reaches.is in
+    record { history = history; counted = sym is; old = at.reaches.state; before = at.reaches.history; new = next.next; step = next.step }
+
+-- behind two events in one go it stands at the history with both entries
+pub stands_by_plan : (backend : BackendParts) (history : List Entry) (old new : DeskView) (taken : TakenPlan)
+    → StandsAt backend history old → TakesPlan old taken new
+    → StandsAt backend ((history ++ taken.snapshot ∷ []) ++ taken.install ∷ []) new
+stands_by_plan backend history old new taken at takes =
+    let first = takes.plans.snapshot.log backend history at in
+    rw (takes.first, takes.second) (takes.plans.install.log backend _ first)
+
+abbrev fault_by : Bool → Bool → Option CloseFault
+fault_by a b = if a then Some PassesOut else (if b then Some SlotsOut else None)
+
+no_fault : (a b : Bool) → fault_by a b ≡ None → b ≡ false
+no_fault true b is = absurd cc
+no_fault false true is = absurd cc
+no_fault false false is = refl
+
+-- where nothing speaks against closing, no connection is open
+pub none_are_open : (tied : TiedView) (passes : ℕ) → fault_of tied passes ≡ None → open_connections tied.desk.shown ≡ 0
+none_are_open tied passes is =
+    let none : nat_lt 0 (open_connections tied.desk.shown) ≡ false = no_fault (nat_lt passes tied.keeper.passes) (nat_lt 0 (open_connections tied.desk.shown)) is in
+    grind (arith, nat_tests)
+
+-- what is left of a desk whose passes share out its history
+pub closes_of : (backend : BackendParts) (history : List Entry) (desk : DeskView) (passes : List (PassView Entry)) (rising : Bool)
+    → StandsAt backend history desk → KeepsHeadline desk → Shares history (receipts_of passes) → open_connections desk.shown ≡ 0 → rising ≡ true
+    → Closes backend passes (record { journal = desk.journal; rising = rising })
+closes_of backend history desk passes rising at keeps shares none rises = record {
+  history = history;
+  end = at.reaches.state;
+  steps = at.reaches.history;
+  journal = at.end;
+  receipts = shares;
+  none_open = ap open_connections at.reaches.is ∙ none;
+  headline = λ early late plan reply is. keeps backend history at early late plan reply is;
+  rising = rises;
+}

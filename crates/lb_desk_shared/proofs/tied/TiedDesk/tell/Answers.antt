@@ -1,0 +1,26 @@
+use Rattle.std.proofs.Common.{◌≡◌, drop, sym, ap, ◌∙◌, subst}
+use Rattle.lb_desk_model.specs.declared.entry.Entry.{Entry}
+use Rattle.lb_desk_ports.specs.Calls.{entry}
+use Rattle.lb_desk_step.specs.Desk.{StandsAt}
+use Rattle.lb_desk_tail.specs.Tail.{TailView, leaving}
+use Rattle.lb_desk_tie.specs.Receipts.{KeeperView, with_entry}
+use Rattle.lb_desk_shared.proofs.Standing.{is_step, some_same}
+use Rattle.lb_desk_shared.proofs.tied.TiedDesk.tell.Goals as goal
+
+pub invariant_of-self-2 : goal.invariant_of-self-2
+invariant_of-self-2 g c =
+    let p = c.self.inside in
+    let takes = c.in_ok-reply.ensures.takes in
+    let e = entry c.args.event c.in_ok-reply.field-0.reply in
+    let journal = p.desk.journal in
+    let newest : c.in-Some.newest.now ≡ e =
+    some_same c.in-Some.newest.now e (c.in-Some.ensures.newest (drop (leaving journal) journal.entries) e (ap (λ (t : TailView Entry). t.entries) (c.journal.ensures ∙ takes.journal))) in
+    subst (λ (k : KeeperView Entry). StandsAt (g.B.Naming.opening k.number) k.history c.advance.new.self)
+    (sym (c.record-number.ensures.keeper ∙ ap (with_entry p.keeper) newest))
+    (takes.log (g.B.Naming.opening p.keeper.number) p.keeper.history c.self.invariant)
+
+pub returns-clause-step : goal.returns-clause-step
+returns-clause-step g c =
+    let p = c.self.inside in
+    rw (← c.self.view_is) (is_step (g.B.Naming.opening p.keeper.number) p.keeper.history p.desk c.advance.new.self c.record-number.result c.args.event c.in_ok-reply.field-0.reply
+    c.self.invariant c.in_ok-reply.ensures.takes c.record-number.ensures.number)

@@ -1,0 +1,4 @@
+pub mod Calls
+pub mod Closing
+pub mod Desks
+pub mod Replies

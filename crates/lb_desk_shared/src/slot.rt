@@ -1,0 +1,27 @@
+ghost use Rattle.std.specs.Prelude.{◌≡◌};
+
+use lb_types::ServerId;
+
+/// A connection that is open at a server of one desk. It can't be dropped: whoever got it gives it back to that desk, by
+/// `SharedDesk::shut`.
+#[derive(Debug)]
+pub struct Slot {
+    pub(crate) desk: u64,
+    pub(crate) server: ServerId,
+}
+
+impl Slot {
+    /// The number of the desk that opened it.
+    pub fn desk(&self) -> u64
+        ensures { result ≡ self.now.desk }
+    {
+        self.desk
+    }
+
+    /// The server that the connection is open at.
+    pub fn server(&self) -> ServerId
+        ensures { result ≡ self.now.server }
+    {
+        self.server
+    }
+}

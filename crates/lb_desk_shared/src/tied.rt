@@ -1,0 +1,187 @@
+ghost use Rattle.std.specs.Prelude.{◌≡◌, ◌+◌, ◌<◌, ◌^◌, ◌≤◌, ◌↔◌, true, [], None, Some, length, vec_len, IfOk, IfErr, OnErr, IsErr, IsErrOf};
+ghost use Rattle.lb_desk_ports.specs.Calls.{entry};
+ghost use Rattle.lb_desk_shared.specs.Calls.{IsStepAt};
+ghost use Rattle.lb_desk_shared.specs.Closing.{Closes, fault_of};
+ghost use Rattle.lb_desk_shared.specs.Desks.{HasJournal, HasPins};
+ghost use Rattle.lb_desk_step.specs.Desk.{StandsAt, Takes, is_worn_for, may_take_memory};
+ghost use Rattle.lb_desk_step.specs.Planning.{TakesPlan, is_worn_for_two};
+ghost use Rattle.lb_desk_tie.specs.Receipts.{AreOf, new_keeper, new_pass, with_entry, with_pass, with_receipt};
+
+use crate::closing::{CloseFault, Closing};
+use crate::journal_copy::JournalCopy;
+use crate::naming::Naming;
+use crate::receipt::Told;
+use lb_desk_model::{Entry, Event, TablePin};
+use lb_desk_ports::Refused;
+use lb_desk_step::{Desk, Taken, TakenPlan};
+use lb_desk_tie::{Keeper, Opened, Pass};
+use std::alloc::{AllocError, Global};
+use std::hash::BuildHasher;
+use std::marker::Model;
+
+/// What lies under the lock: a desk, and beside it the keeper of its receipts, whose history is that of the desk.
+#[derive(Drop)]
+pub(crate) struct TiedDesk<S: BuildHasher, B: Naming> {
+    desk: Desk<S>,
+    keeper: Keeper<Entry, B>,
+}
+
+impl<S: BuildHasher, B: Naming> Model for TiedDesk<S, B> {
+    ghost use Rattle.lb_desk_shared.specs.Desks.{TiedView};
+    ghost use Rattle.lb_desk_step.specs.Desk.{StandsAt};
+
+    ghost Value = { TiedView };
+
+    ghost view = { λ t. record { desk = t.desk; keeper = t.keeper } };
+
+    ghost invariant = { λ t. StandsAt (B.opening t.keeper.number) t.keeper.history t.desk };
+}
+
+impl<S: BuildHasher, B: Naming> TiedDesk<S, B> {
+    /// The desk of this number, which has taken no event yet.
+    pub(crate) fn of(opened: Opened<Entry>, number: u64, desk: Desk<S>) -> Self
+        requires table { opened ≡ B.table_of number }
+        requires opening { StandsAt (B.opening number) [] desk }
+        ensures desk { result.desk ≡ desk }
+        ensures keeper { result.keeper ≡ new_keeper number }
+    {
+        TiedDesk {
+            desk,
+            keeper: opened.named::<B>(number),
+        }
+    }
+
+    /// Which desk it is.
+    pub(crate) fn number(&self) -> u64
+        ensures { result ≡ self.now.keeper.number }
+    {
+        self.keeper.number()
+    }
+
+    /// A new pass. Refused as `Worn` at 2^64 - 1 passes.
+    pub(crate) fn enter(&mut self) -> Result<Pass<Entry, B>, Refused>
+        ensures pass { IfOk result (λ pass. pass ≡ new_pass self.old.keeper.number) }
+        ensures keeper { IfOk result (λ pass. self.new.keeper ≡ with_pass self.old.keeper) }
+        ensures desk { self.new.desk ≡ self.old.desk }
+        ensures worn { IsErr result ↔ (2 ^ 64 ≤ self.old.keeper.passes + 1) }
+        ensures err { OnErr result (self.new ≡ self.old) }
+    {
+        if self.keeper.out() == u64::MAX {
+            return Err(Refused::Worn);
+        }
+        Ok(self.keeper.enter())
+    }
+
+    /// Takes the event as one step of the desk, and gives the pass its receipt. The entry that leaves a full journal is handed
+    /// out.
+    pub(crate) fn tell(
+        &mut self,
+        pass: &mut Pass<Entry, B>,
+        event: Event,
+    ) -> Result<(Told, Option<Entry>), Refused>
+        requires { pass.old.keeper ≡ self.old.keeper.number }
+        ensures takes { IfOk result (λ answer. Takes self.old.desk event answer.0.reply self.new.desk) }
+        ensures number { IfOk result (λ answer. answer.0.number ≡ length self.old.keeper.history) }
+        ensures history { IfOk result
+            (λ answer. self.new.keeper ≡ with_entry self.old.keeper (entry event answer.0.reply)) }
+        ensures receipt { IfOk result
+            (λ answer. pass.new
+            ≡ with_receipt pass.old (answer.0.number, entry event answer.0.reply)) }
+        ensures step { IfOk result
+            (λ answer. IsStepAt
+            (B.opening self.old.keeper.number)
+            answer.0.number
+            event
+            answer.0.reply) }
+
+        // Where it is refused.
+        ensures worn { IsErrOf result Refused.Worn ↔ (is_worn_for self.old.desk event ≡ true) }
+        ensures memory { IsErrOf result Refused.Memory → may_take_memory event ≡ true }
+        ensures err { OnErr result ((self.new ≡ self.old) × (pass.new ≡ pass.old)) }
+    {
+        self.desk.stands_at_a_log();
+        let Taken { reply, forgotten } = self.desk.advance(event)?;
+        let Some(newest) = self.desk.journal().last() else {
+            unreachable!();
+        };
+        let number = self.keeper.record(pass, newest);
+        Ok((Told { number, reply }, forgotten))
+    }
+
+    /// Plans as two steps of the desk, and gives the pass the receipts of both.
+    pub(crate) fn plan_now(&mut self, pass: &mut Pass<Entry, B>) -> Result<TakenPlan, Refused>
+        requires { pass.old.keeper ≡ self.old.keeper.number }
+        ensures takes { IfOk result (λ taken. TakesPlan self.old.desk taken self.new.desk) }
+        ensures history { IfOk result
+            (λ taken. self.new.keeper
+            ≡ with_entry (with_entry self.old.keeper taken.snapshot) taken.install) }
+        ensures receipts { IfOk result
+            (λ taken. pass.new
+            ≡ with_receipt
+            (with_receipt
+            pass.old
+            (length self.old.keeper.history, taken.snapshot))
+            (length self.old.keeper.history + 1, taken.install)) }
+
+        // Where it is refused.
+        ensures worn { IsErrOf result Refused.Worn ↔ (is_worn_for_two self.old.desk ≡ true) }
+        ensures err { OnErr result ((self.new ≡ self.old) × (pass.new ≡ pass.old)) }
+    {
+        self.desk.stands_at_a_log();
+        let taken = self.desk.advance_by_plan()?;
+        self.keeper.record(pass, &taken.snapshot);
+        self.keeper.record(pass, &taken.install);
+        Ok(taken)
+    }
+
+    /// Copies of the pins, in order of last use.
+    pub(crate) fn rows(&self, alloc: Global) -> Result<Vec<TablePin>, AllocError>
+        ensures exact { IfOk result (λ rows. rows.items ≡ self.now.desk.shown.pins) }
+        ensures reached { IfOk result
+            (λ rows. HasPins (B.opening self.now.keeper.number) rows.items) }
+    {
+        self.desk.table_rows(alloc)
+    }
+
+    /// A copy of the journal.
+    pub(crate) fn entries(&self, alloc: Global) -> Result<JournalCopy, AllocError>
+        ensures first { IfOk result (λ copy. copy.first ≡ self.now.desk.journal.first) }
+        ensures entries { IfOk result (λ copy. copy.entries.items ≡ self.now.desk.journal.entries) }
+        ensures reached { IfOk result
+            (λ copy. HasJournal
+            (B.opening self.now.keeper.number)
+            copy.first
+            copy.entries.items) }
+    {
+        JournalCopy::of(alloc, self.desk.journal())
+    }
+
+    /// Why it can't be closed with so many passes, if it can't.
+    pub(crate) fn fault(&self, passes: usize) -> Option<CloseFault>
+        ensures { result ≡ fault_of self.now passes }
+    {
+        if (passes as u64) < self.keeper.out() {
+            Some(CloseFault::PassesOut)
+        } else if self.desk.open_connections() > 0 {
+            Some(CloseFault::SlotsOut)
+        } else {
+            None
+        }
+    }
+}
+
+impl<S: BuildHasher + Drop, B: Naming> TiedDesk<S, B> {
+    /// Closes the desk, once nothing speaks against it: all passes come back, and the journal is left.
+    pub(crate) fn close(self, passes: Vec<Pass<Entry, B>>) -> Closing
+        requires own { AreOf self.keeper.number passes.items }
+        requires may { fault_of self (vec_len passes) ≡ None }
+        ensures { Closes (B.opening self.keeper.number) passes.items result }
+    {
+        self.desk.stands_at_a_log();
+        let TiedDesk { desk, keeper } = self;
+        Closing {
+            rising: keeper.settle(passes),
+            journal: desk.into_journal(),
+        }
+    }
+}
