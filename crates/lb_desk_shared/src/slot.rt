@@ -24,4 +24,12 @@ impl Slot {
     {
         self.server
     }
+
+    /// Gives the slot up, and tells the server. The connection stays open at its desk for ever, which then can't be closed (83).
+    pub fn give_up(self) -> ServerId
+        ensures { result ≡ self.server }
+    {
+        let Slot { desk: _, server } = self;
+        server
+    }
 }

@@ -1,0 +1,58 @@
+ghost use Rattle.lb_desk_ports.specs.Movers.{installing_entries, snapshot_entries};
+ghost use Rattle.lb_desk_seat.specs.Seats.{Adds, entries_at};
+
+use crate::Seat;
+use crate::replies::installing;
+use dual_cert_plan::{Plan, Sheet};
+use lb_desk_model::{Event, Reply, Shared};
+use lb_desk_ports::{Installing, Mover, Refused};
+use lb_desk_shared::Naming;
+use pin_set::Score;
+use std::hash::BuildHasher;
+use std::sync::Wait;
+
+impl<S: BuildHasher, B: Naming> Seat<'_, S, B> {
+    fn take_sheet<R: Wait>(&mut self, rt: &R) -> Result<Shared<Sheet>, Refused>
+        ensures { Adds self.old self.new (snapshot_entries result) }
+    {
+        let Reply::Sheet(sheet) = self.tell(rt, Event::Snapshot)? else {
+            unreachable!();
+        };
+        Ok(sheet)
+    }
+
+    fn hand_in<R: Wait>(&mut self, rt: &R, plan: Plan) -> Result<Installing, Refused>
+        ensures { Adds self.old self.new (installing_entries plan result) }
+    {
+        let plan = Shared::new(self.alloc, plan)?;
+        let reply = self.tell(rt, Event::Install(plan))?;
+        Ok(installing(&reply))
+    }
+}
+
+impl<R: Wait, S: BuildHasher, B: Naming> Mover<R> for Seat<'_, S, B> {
+    ghost entries = { λ seat. entries_at seat };
+
+    ghost refusals = { λ seat. seat.refusals };
+
+    ghost planned_now = { λ seat. seat.planned_now };
+
+    fn snapshot(&mut self, rt: &R) -> Result<Shared<Sheet>, Refused> {
+        let answer = self.take_sheet(rt);
+        self.count(&answer);
+        answer
+    }
+
+    fn install(&mut self, rt: &R, plan: Plan) -> Result<Installing, Refused> {
+        let answer = self.hand_in(rt, plan);
+        self.count(&answer);
+        answer
+    }
+
+    fn plan_now(&mut self, rt: &R) -> Result<Score, Refused> {
+        self.planned_now = self.planned_now.saturating_add(1);
+        let answer = self.desk.plan_now(rt, &mut self.pass);
+        self.count(&answer);
+        answer
+    }
+}
