@@ -1,5 +1,5 @@
 -- What calls leave in a pass.
-use Rattle.std.proofs.Common.{◌≡◌, ℕ, List, [], ◌∷◌, ◌++◌, Ok, sym, ap, ◌∙◌, append_assoc}
+use Rattle.std.proofs.Common.{◌≡◌, ℕ, [], ◌∷◌, Ok, sym, ap, ◌∙◌, append_assoc}
 use Rattle.pin_set.specs.declared.totals.Score.{Score}
 use Rattle.lb_desk_model.specs.declared.entry.Entry.{Entry}
 use Rattle.lb_desk_model.specs.declared.event.Event.TheVariants.{Install}

@@ -75,7 +75,7 @@ impl<S: BuildHasher, B: Naming> SharedDesk<S, B> {
     }
 
     /// Takes the event as one step of the backend, and gives the pass its receipt. It copies no event, and is meant for the path of
-    /// a request. It costs what the event costs at `Desk::advance`, and some 20 atomic steps.
+    /// a request. It costs what the event costs at `Desk::advance`, a lock, and a few atomic steps.
     ///
     /// Refused, for want of memory and as `Worn` (81), exactly where `Desk::advance` is.
     pub fn tell<R: Wait>(
@@ -117,7 +117,9 @@ impl<S: BuildHasher, B: Naming> SharedDesk<S, B> {
         Ok(Receipt::of(copy, told))
     }
 
-    /// Opens a connection to the server.
+    /// Opens a connection to the server, at most as many as its `maxconn` says.
+    ///
+    /// Refused as `Worn` (81) exactly where `Desk::advance` is; want of memory never comes.
     pub fn open<R: Wait>(
         &self,
         rt: &R,
@@ -137,6 +139,8 @@ impl<S: BuildHasher, B: Naming> SharedDesk<S, B> {
     }
 
     /// Ends the connection. The slot is spent, whatever the answer.
+    ///
+    /// An open connection is always ended, since its event needs no memory and has its room at a worn desk.
     pub fn shut<R: Wait>(
         &self,
         rt: &R,
@@ -200,7 +204,7 @@ impl<S: BuildHasher, B: Naming> SharedDesk<S, B> {
 }
 
 impl<S: BuildHasher + Drop, B: Naming> SharedDesk<S, B> {
-    /// Closes the desk with all passes that it gave out. It costs some 10 atomic steps a pass, and takes no memory.
+    /// Closes the desk with all passes that it gave out. It costs a few machine instructions a pass, and takes no memory.
     ///
     /// Refused with 82 where fewer passes come back than were given out, and else with 83 where a connection is open. Then the desk
     /// and the passes are handed back as they were.

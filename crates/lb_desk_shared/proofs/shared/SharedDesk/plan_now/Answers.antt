@@ -1,4 +1,4 @@
-use Rattle.std.proofs.Common.{◌≡◌, ◌+◌, length, sym, ap, ◌∙◌}
+use Rattle.std.proofs.Common.{◌+◌, length}
 use Rattle.lb_desk_shared.proofs.Receiving.{receives_plan}
 use Rattle.lb_desk_shared.proofs.shared.SharedDesk.plan_now.Goals as goal
 

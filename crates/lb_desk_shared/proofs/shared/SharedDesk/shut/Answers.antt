@@ -1,4 +1,4 @@
-use Rattle.std.proofs.Common.{◌≡◌, sym, ap, ◌∙◌}
+use Rattle.std.proofs.Common.{sym, ap}
 use Rattle.lb_desk_model.specs.declared.event.Event.TheVariants.{Close}
 use Rattle.lb_desk_ports.specs.Calls.{entry}
 use Rattle.lb_desk_ports.specs.Ports.{shut_reply}

@@ -1,4 +1,4 @@
-use Rattle.std.proofs.Common.{◌≡◌, vec_len, sym, ap, ◌∙◌}
+use Rattle.std.proofs.Common.{◌≡◌, vec_len, ap, ◌∙◌}
 use Rattle.lb_desk_model.specs.Worn.{open_connections}
 use Rattle.lb_desk_shared.specs.Desks.{TiedView}
 use Rattle.lb_desk_shared.proofs.Standing.{closes_of, none_are_open}
