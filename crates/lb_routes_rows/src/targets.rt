@@ -1,0 +1,108 @@
+use crate::farm::{SHOP, TOOLS, farm, head};
+use http_relay_dial::{Endpoint, Limits};
+use http_relay_serve::Routing;
+use http_relay_talk::Target;
+use lb_routes::ConfigRoutes;
+use lb_types::ServerId;
+use std::net::Ipv4Addr;
+use std::test::Fail;
+
+/// The last number of an address 127.0.0.x, a port, and the limits to connect, for each read and write, and in the queue, in
+/// milliseconds.
+type Way = (u8, u16, Option<u32>, Option<u32>, Option<u32>);
+
+/// A frontend, a target that leads to a backend, whether servers there get the client's address, a server's number, and how it is
+/// reached.
+type Row = (usize, &'static str, bool, u8, Option<Way>);
+
+const ROWS: &[Row] = &[
+    (
+        SHOP,
+        "/",
+        false,
+        0,
+        Some((1, 8001, Some(3000), Some(20000), Some(5000))),
+    ),
+    (
+        SHOP,
+        "/",
+        false,
+        1,
+        Some((2, 8002, Some(3000), Some(20000), Some(5000))),
+    ),
+    (SHOP, "/", false, 2, None),
+    (
+        SHOP,
+        "/api/",
+        true,
+        0,
+        Some((3, 8003, Some(2000), None, Some(2000))),
+    ),
+    (
+        SHOP,
+        "/plain/",
+        false,
+        0,
+        Some((4, 8004, Some(4000), None, Some(0))),
+    ),
+    (SHOP, "/plain/", false, 127, None),
+    (
+        TOOLS,
+        "/pages/",
+        true,
+        0,
+        Some((1, 8001, Some(3000), Some(20000), Some(5000))),
+    ),
+    (TOOLS, "/closed/", true, 0, None),
+];
+
+fn is_way(found: Option<Target>, server: ServerId, wanted: Option<Way>) -> bool {
+    let (Some(target), Some((last, port, connect, transfer, queue))) = (found, wanted) else {
+        return found.is_none() && wanted.is_none();
+    };
+    target
+        == Target {
+            server,
+            endpoint: Endpoint {
+                address: Ipv4Addr::new(127, 0, 0, last),
+                port,
+            },
+            limits: Limits { connect, transfer },
+            queue,
+        }
+}
+
+// How the servers of a backend are reached: the queue's limit is its own where it has one, and else that of connecting.
+#[test]
+fn servers_are_reached_under_the_limits_of_their_backend(rt: HostRuntime) -> Result<(), Fail> {
+    let config = farm(&rt, rt.alloc());
+    for (frontend, target, forwards, number, wanted) in ROWS {
+        let Some(routes) = ConfigRoutes::at(&config, *frontend) else {
+            panic!(&rt; "no frontend {frontend}");
+        };
+        let Some(backend) = routes.backend(&head("GET", target, &[], [192, 0, 2, 1])) else {
+            panic!(&rt; "no backend for {target}");
+        };
+        let server = ServerId::new(*number % 128);
+        let found = routes.target(backend, server);
+        assert!(rt;
+            is_way(found, server, *wanted) && routes.forwards_address(backend) == *forwards,
+            "{target} {number}: {found:?}"
+        );
+    }
+    Ok(())
+}
+
+// Only one frontend limits how long its clients may take.
+#[test]
+fn frontends_limit_their_clients(rt: HostRuntime) -> Result<(), Fail> {
+    let config = farm(&rt, rt.alloc());
+    let (Some(shop), Some(tools)) = (
+        ConfigRoutes::at(&config, SHOP),
+        ConfigRoutes::at(&config, TOOLS),
+    ) else {
+        panic!(&rt; "no frontends");
+    };
+    assert!(rt; (shop.client_limit(), tools.client_limit()) == (Some(10000), None));
+    Ok(())
+}
