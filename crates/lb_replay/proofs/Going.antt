@@ -1,6 +1,6 @@
 -- A replay, piece by piece.
-use Rattle.std.proofs.Common.{◌≡◌, ℕ, ◌+◌, Bool, true, false, Option, Some, None, IfSome, List, [], ◌∷◌, ◌++◌, length, map, flat_map, option_map, refl, sym, ap, subst, ◌∙◌, arith, append_assoc, append-nil, length-append}
-use Rattle.std.specs.Prelude.{⊤, if◌then◌else◌}
+use Rattle.std.proofs.Common.{◌≡◌, ℕ, ◌+◌, Bool, true, false, Option, Some, None, IfSome, List, [], ◌∷◌, ◌++◌, length, map, flat_map, option_map, refl, sym, ap, subst, ◌∙◌, arith, append-nil, length-append}
+use Rattle.std.specs.Prelude.{if◌then◌else◌}
 use Rattle.std.specs.Io.KnownBytes.{Appends}
 use Rattle.std.proofs.lemmas.Grind.{flat_map-append}
 use Rattle.std.proofs.lemmas.List.{map_push}
@@ -9,13 +9,13 @@ use Rattle.lb_types_counted.proofs.Writes.{Appends-nil, Appends-then}
 use Rattle.lb_desk_model.specs.declared.entry.Entry.{Entry}
 use Rattle.lb_desk_step.specs.Desk.{StandsAt}
 use Rattle.lb_script.specs.declared.script_line.ScriptLine.{ScriptLine}
-use Rattle.lb_replay_lines.specs.Lines.{behind_end, lines_of, through_end}
+use Rattle.lb_replay_lines.specs.Lines.{lines_of, through_end}
 use Rattle.lb_replay_lines.specs.Readings.{ReadingView, IsReadWhole}
 use Rattle.lb_replay.specs.Farms.{FarmView}
 use Rattle.lb_replay.specs.Days.{DayView, Outcome, opening_day}
 use Rattle.lb_replay.specs.Pieces.{AreCut, behind_piece, is_plan_text, piece_at, said_by}
 use Rattle.lb_replay.specs.Answers.{Answers, is_bad}
-use Rattle.lb_replay.specs.Replays.{Answered, AreAnswered, Ends, IsAnswered, IsReplay, Output, bad_line, day_behind, joined, line_count, log_of, text_of}
+use Rattle.lb_replay.specs.Replays.{Answered, AreAnswered, IsAnswered, Output, bad_line, day_behind, joined, line_count, log_of, text_of}
 use Rattle.lb_replay.specs.Steps.{Does, GoneSoFar, HasGone, HasPiece, Replays, SaysNext, TakesPiece}
 use Rattle.lb_replay.proofs.Outcomes.{stands_answered}
 

@@ -1,5 +1,5 @@
 -- What answers come to.
-use Rattle.std.proofs.Common.{◌≡◌, ℕ, Bool, true, false, ◌⊎◌, inl, inr, Option, Some, None, List, [], ◌∷◌, ◌++◌, Result, Ok, Err, refl, sym, ap, subst, ◌∙◌, append_assoc, append-nil}
+use Rattle.std.proofs.Common.{◌≡◌, ℕ, true, inl, inr, Option, Some, None, List, [], ◌∷◌, ◌++◌, Result, Ok, Err, refl, sym, ap, subst, ◌∙◌, append_assoc, append-nil}
 use Rattle.std.specs.Io.KnownBytes.{Appends}
 use Rattle.pin_set.specs.declared.totals.Score.{Score}
 use Rattle.dual_cert_plan.specs.Plans.{PlanParts}
@@ -13,14 +13,14 @@ use Rattle.lb_desk_model.specs.declared.reply.Reply.{Reply}
 use Rattle.lb_desk_model.specs.declared.reply.Reply.TheVariants.{Sheet, Installed}
 use Rattle.lb_desk_law.specs.Worlds.{entry}
 use Rattle.lb_desk_model.specs.Backends.{BackendParts}
-use Rattle.lb_desk_step.specs.Desk.{DeskView, StandsAt, Takes, is_worn_for}
+use Rattle.lb_desk_step.specs.Desk.{StandsAt, Takes, is_worn_for}
 use Rattle.lb_desk_step.specs.Planning.{PlansNow, is_worn_for_two}
 use Rattle.lb_answers.specs.Events.{asked_server}
 use Rattle.lb_script.specs.declared.script_line.ScriptLine.{ScriptLine}
 use Rattle.lb_script.specs.declared.script_line.ScriptLine.TheVariants as Says
 use Rattle.lb_replay.specs.Farms.{FarmView}
 use Rattle.lb_replay.specs.Days.{DayView, Outcome, IsOnlyText, kept_sheet, with_reply}
-use Rattle.lb_replay.specs.Answers.{Answers, AnswersEvent, AnswersInstall, AnswersPlanNow, AnswersText, Planned, Took, reply_line, worn_line}
+use Rattle.lb_replay.specs.Answers.{Answers, AnswersEvent, AnswersInstall, AnswersPlanNow, AnswersText, reply_line, worn_line}
 use Rattle.lb_replay.specs.Steps.{Does}
 
 -- only a text went out

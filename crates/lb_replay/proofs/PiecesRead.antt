@@ -1,13 +1,12 @@
 -- Pieces of a script that were read.
-use Rattle.std.proofs.Common.{◌≡◌, ℕ, ◌+◌, Bool, true, false, cond, Option, Some, None, List, [], ◌∷◌, ◌++◌, length, flat_map, refl, sym, ap, subst, ◌∙◌, arith, append-nil}
-use Rattle.std.specs.Prelude.{⊤}
+use Rattle.std.proofs.Common.{◌≡◌, ℕ, ◌+◌, true, false, cond, Option, Some, None, List, [], ◌∷◌, ◌++◌, length, sym, ap, subst, ◌∙◌, arith, append-nil}
 use Rattle.lb_script.specs.declared.script_line.ScriptLine.{ScriptLine}
 use Rattle.lb_replay_lines.specs.Lines.{behind_end, through_end}
-use Rattle.lb_replay_lines.specs.Readings.{ReadingView, AddsLine, AddsThroughEnd, ReadsLine}
+use Rattle.lb_replay_lines.specs.Readings.{ReadingView, AddsLine, AddsThroughEnd}
 use Rattle.lb_replay.specs.Farms.{FarmView}
-use Rattle.lb_replay.specs.Pieces.{behind_piece, is_plan_text, piece_at, said_by}
+use Rattle.lb_replay.specs.Pieces.{is_plan_text, piece_at, said_by}
 use Rattle.lb_replay.specs.Replays.{joined}
-use Rattle.lb_replay.specs.Steps.{HasPiece, SaysNext, TakesPiece}
+use Rattle.lb_replay.specs.Steps.{SaysNext, TakesPiece}
 
 -- the line that was read says this
 pub says_next : (farm : FarmView) (lines : Option (List (List ℕ))) (piece : List ℕ) (left : Option (List (List ℕ))) (said : Option ScriptLine)

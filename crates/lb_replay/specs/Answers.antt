@@ -10,7 +10,6 @@ use Rattle.command_socket_words.specs.Faults.{fault_text as command_fault_text}
 use Rattle.command_socket_words.specs.declared.command.Shown.{Shown}
 use Rattle.command_socket_words.specs.declared.command.Shown.TheVariants as Show
 use Rattle.lb_config.specs.ConfigViews.{BackendView}
-use Rattle.lb_desk_model.specs.declared.entry.Entry.{Entry}
 use Rattle.lb_desk_model.specs.declared.event.Event.{Event}
 use Rattle.lb_desk_model.specs.declared.event.Event.TheVariants.{Snapshot, Install}
 use Rattle.lb_desk_model.specs.declared.reply.Reply.{Reply}

@@ -1,5 +1,5 @@
 -- Whom a script is for: the one backend of a configuration that has servers, as it opens.
-use Rattle.std.specs.Prelude.{◌≡◌, ℕ, List, Option, Some, slice_get}
+use Rattle.std.specs.Prelude.{◌≡◌, ℕ, Option, Some, slice_get}
 use Rattle.std.specs.Option.{option_map}
 use Rattle.lb_config.specs.ConfigViews.{BackendView, ConfigView}
 use Rattle.lb_config_parameters.specs.TableViews.{StickTableView}

@@ -1,5 +1,5 @@
 -- A script in pieces: a piece is a line, or the lines of a plan's text.
-use Rattle.std.specs.Prelude.{◌≡◌, ℕ, Bool, true, false, List, [], ◌∷◌, Option, Some, None, if◌then◌else◌}
+use Rattle.std.specs.Prelude.{◌≡◌, ℕ, Bool, true, false, List, [], ◌∷◌, Option, Some, if◌then◌else◌}
 use Rattle.lb_script.specs.declared.script_line.ScriptLine.{ScriptLine}
 use Rattle.lb_script.specs.declared.script_line.ScriptLine.TheVariants.{PlanText}
 use Rattle.lb_script.specs.Lines.{script_line}

@@ -1,4 +1,4 @@
-use Rattle.std.proofs.Common.{◌≡◌, refl, sym, subst, Some, []}
+use Rattle.std.proofs.Common.{refl, sym, subst, Some, []}
 use Rattle.std.proofs.lemmas.Result.{on_ok_weaker}
 use Rattle.lb_types_counted.proofs.Writes.{Appends-nil}
 use Rattle.lb_script.specs.declared.script_line.ScriptLine.{ScriptLine}

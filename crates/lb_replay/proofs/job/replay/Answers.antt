@@ -1,8 +1,7 @@
-use Rattle.std.proofs.Common.{◌≡◌, Err, Ok, None, Some, refl, sym, ◌∙◌}
+use Rattle.std.proofs.Common.{◌≡◌, Err, None, sym, ◌∙◌}
 use Rattle.lb_config.specs.Configs.{config_in}
 use Rattle.lb_script.specs.Backends.{only_place}
-use Rattle.lb_replay.specs.Replays.{IsReplayOf, Writes}
-use Rattle.lb_replay.proofs.Written.{both_ok, some_any, writes_fault, writes_no_farm, writes_replay}
+use Rattle.lb_replay.proofs.Written.{both_ok, some_any, writes_fault, writes_no_farm}
 use Rattle.lb_replay.proofs.job.replay.Goals as goal
 
 pub returns-in-Err-Fault : goal.returns-in-Err-Fault

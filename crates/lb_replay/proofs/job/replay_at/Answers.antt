@@ -2,7 +2,6 @@ use Rattle.std.proofs.Common.{◌≡◌, Some, length, refl}
 use Rattle.std.proofs.lemmas.Result.{IfOk-weaker}
 use Rattle.std.proofs.lemmas.Option.{slice_get_read}
 use Rattle.std.specs.Prelude.{slice_get}
-use Rattle.lb_replay.specs.Steps.{ReplaysFarm}
 use Rattle.lb_replay.proofs.Going.{some_weaker}
 use Rattle.lb_replay.proofs.job.replay_at.Goals as goal
 

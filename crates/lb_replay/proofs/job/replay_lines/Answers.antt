@@ -1,10 +1,7 @@
-use Rattle.std.proofs.Common.{◌≡◌, ℕ, Option, Some, None, option_map, refl, ap, sym, subst, ◌∙◌}
-use Rattle.lb_script.specs.declared.script_line.ScriptLine.{ScriptLine}
+use Rattle.std.proofs.Common.{Some, None, option_map, refl, ap, sym, subst, ◌∙◌}
 use Rattle.lb_replay_lines.specs.Lines.{lines_of}
 use Rattle.lb_replay_lines.specs.Readings.{ReadingView}
-use Rattle.lb_replay.specs.Answers.{Answers}
-use Rattle.lb_replay.specs.Steps.{Does, ReadsPiece}
-use Rattle.lb_replay.specs.declared.pieces.Piece.{Piece}
+use Rattle.lb_replay.specs.Steps.{ReadsPiece}
 use Rattle.lb_replay.proofs.Going.{gone_bad, gone_more, gone_none, gone_whole, says_first}
 use Rattle.lb_replay.proofs.job.replay_lines.Goals as goal
 
