@@ -6,8 +6,7 @@ use http_relay_socket::StreamLimits;
 use http_relay_system::{SocketDialer, SystemClock};
 use http_relay_wire::WireFault;
 use http_relay_work::{HeadGate, Relay, serve_arrival};
-use lb_config::Config;
-use lb_desk_ports::{OpenGate, ScriptedPort};
+use lb_desk_ports::{OpenGate, PortScript, ScriptedPort};
 use std::net::{Ipv4Addr, TcpListener};
 use std::sync::atomic::AtomicBool;
 use std::test::Fail;
@@ -63,13 +62,13 @@ const ROWS: &[Row] = &[
 ];
 
 // Serves the row's request over one port, and gives the outcome and what the client got.
-fn serve(
+fn serve<'a>(
     rt: &HostRuntime,
-    config: &Config,
-    start: Instant,
+    relay: Relay<'_>,
+    port: &'a PortScript<'a>,
     row: &Row,
 ) -> Result<(Option<Outcome>, Vec<u8>), Fail> {
-    let (frontend, is_stopped, sent, ends, _, _) = *row;
+    let (frontend, _, sent, ends, _, _) = *row;
     let (stream, mut far) = client(rt, sent, ends)?;
     LIMITS.set(&stream)?;
     let arrival = Arrival {
@@ -77,21 +76,15 @@ fn serve(
         source: Ipv4Addr::LOCALHOST,
         frontend,
     };
-    let (stop, head_read) = (AtomicBool::new(is_stopped), AtomicBool::new(false));
+    let head_read = AtomicBool::new(false);
     let mut worker = Worker {
-        clock: SystemClock::new(start),
+        clock: SystemClock::new(relay.start),
         gate: HeadGate::new(OpenGate, &head_read),
         dialer: SocketDialer::new(),
     };
-    let relay = Relay {
-        config,
-        stop: &stop,
-        start,
-    };
-    let port = open_port();
     let mut ports = Vec::new(rt.alloc());
-    ports.push(ScriptedPort::new(rt.alloc(), &port))?;
-    if ports.len() < config.backends().len() {
+    ports.push(ScriptedPort::new(rt.alloc(), port))?;
+    if ports.len() < relay.config.backends().len() {
         return Ok((None, Vec::new(rt.alloc())));
     }
     let mut room = [0; HEAD_ROOM];
@@ -113,9 +106,16 @@ fn connections_end_as_their_frontend_says(rt: HostRuntime) -> Result<(), Fail> {
     let gone = TcpListener::bind(&rt, "127.0.0.1:0")?.local_addr()?.port();
     let config = config(&rt, gone)?;
     let start = Instant::now(&rt)?;
+    let port = open_port();
     for row in ROWS {
-        let (_, _, sent, _, wanted, text) = row;
-        let (outcome, answer) = serve(&rt, &config, start, row)?;
+        let (_, is_stopped, sent, _, wanted, text) = row;
+        let stop = AtomicBool::new(*is_stopped);
+        let relay = Relay {
+            config: &config,
+            stop: &stop,
+            start,
+        };
+        let (outcome, answer) = serve(&rt, relay, &port, row)?;
         assert!(rt;
             outcome == *wanted && answer.as_slice() == *text,
             "{sent:?}: {outcome:?}"
