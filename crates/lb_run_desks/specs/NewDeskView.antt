@@ -1,0 +1,9 @@
+-- A desk at its opening as it is seen. Our own words.
+use Rattle.atomic_table.specs.Seated.{TableId}
+use Rattle.lb_desk_model.specs.Backends.{BackendParts}
+
+pub record NewDeskView : Type 0 where
+  -- the table of its receipts
+  pub table : TableId
+  -- the backend that it opened with
+  pub backend : BackendParts

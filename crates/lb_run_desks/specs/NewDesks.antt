@@ -1,0 +1,38 @@
+-- The desks of a configuration's backends at their opening, and what their common name says of them. Our own words.
+use Rattle.std.specs.Prelude.{◌≡◌, ℕ, ◌+◌, List, [], ◌∷◌, ◌++◌, length, Option, Some, None, slice_get}
+use Rattle.atomic_table.specs.Seated.{TableId}
+use Rattle.lb_config.specs.ConfigViews.{BackendView}
+use Rattle.lb_desk_backend.specs.Configured.{IsBackendOf}
+use Rattle.lb_desk_model.specs.Backends.{BackendParts}
+use Rattle.lb_desk_shared.specs.Desks.{no_backend}
+use Rattle.lb_desk_tie.specs.Rule.{no_table}
+use Rattle.lb_run_desks.specs.NewDeskView.{NewDeskView}
+
+-- each of the backends has one desk, which opened with it, in their order
+abbrev pub Open : List BackendView → List NewDeskView → Type 0
+Open [] [] = Unit {0}
+Open (config ∷ configs) (desk ∷ desks) = IsBackendOf config desk.backend × Open configs desks
+Open [] (desk ∷ desks) = ⊥
+Open (config ∷ configs) [] = ⊥
+
+-- the name says of each place which table and which backend the desk has that stands there
+abbrev pub AreNamed : (ℕ → TableId) → (ℕ → BackendParts) → List NewDeskView → Type 0
+AreNamed tables backends desks =
+    (place : ℕ) (desk : NewDeskView) → slice_get desks place ≡ Some desk → (desk.table ≡ tables place) × (desk.backend ≡ backends place)
+
+-- what such a name says of a place
+abbrev pub table_at : Option NewDeskView → TableId
+table_at None = no_table
+table_at (Some desk) = desk.table
+
+abbrev pub backend_at : Option NewDeskView → BackendParts
+backend_at None = no_backend
+backend_at (Some desk) = desk.backend
+
+-- the places of a list's elements: 0, 1 and so on
+abbrev pub numbers_from : ℕ → List NewDeskView → List ℕ
+numbers_from n [] = []
+numbers_from n (desk ∷ desks) = n ∷ numbers_from (n + 1) desks
+
+abbrev pub numbers : List NewDeskView → List ℕ
+numbers desks = numbers_from 0 desks

@@ -1,0 +1,69 @@
+ghost use Rattle.std.specs.Prelude.{◌≡◌, IfOk};
+ghost use Rattle.lb_run_doors.specs.Doors.{door_at, door_view, limits_of};
+
+use crate::fault::BindFault;
+use http_relay_listen::listen;
+use http_relay_socket::StreamLimits;
+use lb_config::Frontend;
+use lb_config_arguments::Endpoint;
+use std::alloc::{AllocError, Global};
+use std::net::{Net, SocketAddrV4, TcpListener};
+
+/// Where clients of a frontend connect.
+#[derive(Debug, Drop)]
+pub struct ClientDoor {
+    pub listener: TcpListener,
+    pub endpoint: Endpoint,
+    /// The place of the frontend among the configuration's.
+    pub frontend: usize,
+    /// What each connection may wait for its client.
+    pub limits: StreamLimits,
+}
+
+impl ClientDoor {
+    /// Listens there for the frontend at this place.
+    pub(crate) fn open<R: Net>(
+        rt: &R,
+        alloc: Global,
+        place: usize,
+        frontend: &Frontend,
+        endpoint: Endpoint,
+    ) -> Result<Self, BindFault>
+        ensures { IfOk result (λ door. door_view door ≡ door_at place frontend.now endpoint) }
+    {
+        let address = SocketAddrV4::new(endpoint.address, endpoint.port);
+        match listen(rt, address) {
+            Ok(listener) => Ok(ClientDoor {
+                listener,
+                endpoint,
+                frontend: place,
+                limits: limits_of(frontend),
+            }),
+            Err(_) => Err(BindFault::CannotBind(endpoint_text(alloc, endpoint)?)),
+        }
+    }
+
+    /// Its address, as it is printed. The error is want of memory.
+    pub fn address_text(&self, alloc: Global) -> Result<Vec<u8>, AllocError> {
+        endpoint_text(alloc, self.endpoint)
+    }
+}
+
+/// A client may hold up each read and each write for as long as the frontend says.
+fn limits_of(frontend: &Frontend) -> StreamLimits
+    ensures { result ≡ limits_of frontend.now }
+{
+    StreamLimits {
+        read: frontend.client_limit(),
+        write: frontend.client_limit(),
+    }
+}
+
+/// The address and the port, as `127.0.0.1:80`. The error is want of memory.
+pub(crate) fn endpoint_text(alloc: Global, endpoint: Endpoint) -> Result<Vec<u8>, AllocError> {
+    let address = SocketAddrV4::new(endpoint.address, endpoint.port);
+    let text = address.to_string(alloc)?;
+    let mut bytes = Vec::new(alloc);
+    bytes.extend_from_slice(text.as_bytes())?;
+    Ok(bytes)
+}
