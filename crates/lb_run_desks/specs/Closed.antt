@@ -22,4 +22,4 @@ yes_or_no false = codes "no"
 abbrev pub closed_line : List ℕ → Closing → List ℕ
 closed_line backend closing =
     codes "closed " ++ backend ++ codes " events " ++ decimal (closing.journal.first + length closing.journal.entries)
-        ++ codes " rising " ++ yes_or_no closing.rising ++ codes "\n"
+    ++ codes " rising " ++ yes_or_no closing.rising ++ codes "\n"

@@ -57,11 +57,7 @@ fn take_own<B: Naming>(
 
 /// The line that says that the desk of this backend is closed, with the number of all its events, and whether the numbers of each pass
 /// rose. The error is want of memory.
-pub fn closed_line(
-    alloc: Global,
-    backend: &[u8],
-    closing: &Closing,
-) -> Result<Vec<u8>, AllocError>
+pub fn closed_line(alloc: Global, backend: &[u8], closing: &Closing) -> Result<Vec<u8>, AllocError>
     ensures { IfOk result (λ line. line.items ≡ closed_line backend.now closing.now) }
 {
     let mut line = Vec::new(alloc);
@@ -70,7 +66,11 @@ pub fn closed_line(
     line.extend_from_slice(b" events ")?;
     line.extend_from_slice(closing.journal.next_number().to_string(alloc)?.as_bytes())?;
     line.extend_from_slice(b" rising ")?;
-    line.extend_from_slice(if closing.rising { b"yes".as_slice() } else { b"no" })?;
+    line.extend_from_slice(if closing.rising {
+        b"yes".as_slice()
+    } else {
+        b"no"
+    })?;
     line.extend_from_slice(b"\n")?;
     Ok(line)
 }

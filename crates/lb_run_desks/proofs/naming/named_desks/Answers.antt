@@ -9,16 +9,16 @@ named-requires-clause-table g c =
     let here : c.len-number.result ≡ length c.loop-new.yielded =
     c.len-number.ensures ∙ c.loop-new.invariant.3 in
     (c.requires c.len-number.result c.in-Some.new
-        (next_stands c.loop-new.yielded c.loop-new.new-iterator.rest.items c.args.news.items c.next.new.self.rest.items c.in-Some.new c.len-number.result
-            c.loop-new.invariant.2 (c.in-Some.ensures.steps.0) here)).0
+    (next_stands c.loop-new.yielded c.loop-new.new-iterator.rest.items c.args.news.items c.next.new.self.rest.items c.in-Some.new c.len-number.result
+    c.loop-new.invariant.2 (c.in-Some.ensures.steps.0) here)).0
 
 pub named-requires-clause-opening : goal.named-requires-clause-opening
 named-requires-clause-opening g c =
     let here : c.len-number.result ≡ length c.loop-new.yielded =
     c.len-number.ensures ∙ c.loop-new.invariant.3 in
     (c.requires c.len-number.result c.in-Some.new
-        (next_stands c.loop-new.yielded c.loop-new.new-iterator.rest.items c.args.news.items c.next.new.self.rest.items c.in-Some.new c.len-number.result
-            c.loop-new.invariant.2 (c.in-Some.ensures.steps.0) here)).1
+    (next_stands c.loop-new.yielded c.loop-new.new-iterator.rest.items c.args.news.items c.next.new.self.rest.items c.in-Some.new c.len-number.result
+    c.loop-new.invariant.2 (c.in-Some.ensures.steps.0) here)).1
 
 pub loop-new-preserved : goal.loop-new-preserved
 loop-new-preserved g c =

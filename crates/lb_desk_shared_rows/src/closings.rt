@@ -1,0 +1,123 @@
+//! Desks are closed, and their journals judged.
+ghost use Rattle.std.specs.Prelude.{◌≡◌};
+
+use crate::calls::request_once;
+use crate::farms::{Hasher, desk_of, farm};
+use lb_desk_model::{Backend, Entry, ServedAs};
+use lb_desk_ports::{Opening, Shut};
+use lb_desk_shared::{CloseFault, Closing, Naming, SharedDesk};
+use lb_desk_step::run_world;
+use lb_desk_tie::{Opened, Pass};
+use lb_types::ServerId;
+use std::alloc::Global;
+use std::hash::{BuildHasherDefault, FoldHasher};
+use std::marker::Brand;
+use std::process::Abort;
+use std::sync::Wait;
+use std::test::Fail;
+
+/// Closes the desk with these two passes.
+pub(crate) fn close_with<B: Naming>(
+    rt: &impl Abort,
+    alloc: Global,
+    desk: SharedDesk<Hasher, B>,
+    one: Pass<Entry, B>,
+    two: Pass<Entry, B>,
+) -> Result<Closing, Fail> {
+    assert_eq!(rt; one.keeper(), desk.number(), "a pass of this desk");
+    assert_eq!(rt; two.keeper(), desk.number(), "a pass of this desk");
+    let passes = vec![in alloc; one, two]?;
+    match desk.close(passes) {
+        Ok(closing) => Ok(closing),
+        Err(out) => panic!(rt; "not closed: {}", out.fault.number()),
+    }
+}
+
+/// A backend that takes the journal's events again, one after another, gives the same replies.
+pub(crate) fn judge(
+    rt: &impl Abort,
+    alloc: Global,
+    backend: &Backend,
+    closing: &Closing,
+) -> Result<(), Fail> {
+    assert!(rt; closing.rising, "numbers rise");
+    assert_eq!(rt; closing.journal.first(), 0, "a whole history");
+    let mut events = Vec::new(alloc);
+    for entry in closing.journal.iter() {
+        events.push(entry.event.clone()?)?;
+    }
+    let hasher = BuildHasherDefault::<FoldHasher>::new();
+    let replies = run_world(alloc, backend, events, hasher)?;
+    assert_eq!(rt;
+        replies.len(),
+        closing.journal.len(),
+        "a reply to each event"
+    );
+    for (reply, entry) in replies.iter().zip(closing.journal.iter()) {
+        assert_eq!(rt; *reply, entry.reply, "the same reply");
+    }
+    Ok(())
+}
+
+/// Closes a desk too early, twice, and then in time.
+fn close_thrice<B: Naming, R: Wait + Abort>(
+    rt: &R,
+    alloc: Global,
+    opened: Opened<Entry>,
+    backend: &Backend,
+) -> Result<(), Fail>
+    requires table { opened ≡ B.table_of 0 }
+    requires opening { B.opening 0 ≡ backend.now }
+{
+    let desk = desk_of::<B>(alloc, opened, 0, backend)?;
+    let mut pass = desk.enter(rt)?;
+    assert_eq!(rt;
+        request_once(rt, alloc, &desk, &mut pass, "x")?,
+        Some(ServedAs::Made)
+    );
+    assert_eq!(rt;
+        request_once(rt, alloc, &desk, &mut pass, "x")?,
+        Some(ServedAs::Kept)
+    );
+    let Err(out) = desk.close(Vec::new(alloc)) else {
+        panic!(rt; "closed with a pass out");
+    };
+    assert_eq!(rt; out.fault, CloseFault::PassesOut, "a pass is out");
+    let desk = out.desk;
+    assert_eq!(rt;
+        desk.entries(rt, alloc)?.entries.len(),
+        6,
+        "nothing is lost"
+    );
+    assert_eq!(rt; desk.rows(rt, alloc)?.len(), 1, "one pin");
+    let mut passes = Vec::with_capacity(alloc, 1)?;
+    let Opening::Opened(slot) = desk.open(rt, &mut pass, ServerId::new(1))? else {
+        panic!(rt; "not opened");
+    };
+    passes.push_reserved(pass);
+    let Err(out) = desk.close(passes) else {
+        panic!(rt; "closed with a connection open");
+    };
+    assert_eq!(rt; out.fault, CloseFault::SlotsOut, "a connection is open");
+    let desk = out.desk;
+    let mut passes = out.passes;
+    let Some(mut pass) = passes.pop() else {
+        panic!(rt; "no pass comes back");
+    };
+    assert_eq!(rt; pass.keeper(), desk.number(), "the same pass");
+    assert_eq!(rt; slot.desk(), desk.number(), "the same desk");
+    let shut = desk.shut(rt, &mut pass, slot)?;
+    assert_eq!(rt; shut, Shut::Closed, "the connection ends");
+    let Ok(closing) = desk.close(vec![in alloc; pass]?) else {
+        panic!(rt; "not closed");
+    };
+    judge(rt, alloc, backend, &closing)
+}
+
+#[test]
+fn a_desk_is_closed_once_all_is_back(rt: HostRuntime) -> Result<(), Fail> {
+    let alloc = rt.alloc();
+    let opened = Opened::new(alloc)?;
+    let backend = farm(alloc)?;
+    close_thrice::<Brand, _>(&rt, alloc, opened, &backend)
+}
