@@ -6,7 +6,6 @@ use crate::{JobError, check, plan, plan_tables, sheet_for, verify, verify_for, v
 use dual_cert::Sheet;
 use lb_cli_words::Job;
 use lb_replay::replay;
-use lb_run::{Host, run_text};
 use lb_types::Counted;
 use std::alloc::Global;
 use std::io::{BufRead, BufReader, BufWriter, Write};
@@ -15,7 +14,7 @@ use std::{fs, io};
 
 /// Does the job, with its answer on `out` and what hindered it on `err`, and tells the program's exit status, `status_of`
 /// what came of the job.
-pub fn perform<R: Host + Files, O: Write, E: Write>(
+pub fn perform<R: Files, O: Write, E: Write>(
     alloc: Global,
     rt: &R,
     job: Job<'_>,
@@ -29,7 +28,6 @@ pub fn perform<R: Host + Files, O: Write, E: Write>(
         Job::PlanTable { file } => (file, table_file(alloc, rt, file, out)),
         Job::Check { file } => (file, check_file(alloc, rt, file, out)),
         Job::Replay { config, script } => replay_files(alloc, rt, config, script, out, err),
-        Job::Run { file } => (file, run_file(alloc, rt, file, out, err)),
         Job::Version => ("", version(out)),
     };
     if let Err(error) = done {
@@ -178,18 +176,6 @@ fn replay_lines<S: BufRead + Drop, O: Write, E: Write>(
         Ok(()) => Ok(is_whole),
         Err(_) => Err(JobError::CannotWrite),
     }
-}
-
-/// Whether the balancer of the file's configuration ran and ended as it should.
-fn run_file<R: Host + Files, O: Write, E: Write>(
-    alloc: Global,
-    rt: &R,
-    path: &str,
-    out: &mut O,
-    err: &mut E,
-) -> Result<bool, JobError> {
-    let config = whole_file(alloc, rt, path)?;
-    run_text(rt, alloc, &config, out, err)
 }
 
 /// Whether the file's text is a sheet's, of which a plan was written.
