@@ -1,0 +1,45 @@
+use lb_desk_shared::CloseFault;
+use lb_run_doors::BindFault;
+use std::alloc::{AllocError, AllocFailed};
+use thiserror::Error;
+
+/// Why the balancer didn't run, or didn't end as it should.
+#[derive(Debug, Drop, Error)]
+pub enum RunFault {
+    /// This address can't be bound. Nothing ran.
+    #[error("an address can't be bound")]
+    Bind(Vec<u8>),
+    /// There is not memory enough, or a thread can't be made. What ran was ended.
+    #[error("out of memory")]
+    Memory,
+    /// The system's clock or its random numbers can't be read. Nothing ran.
+    #[error("the system's clock or its random numbers can't be read")]
+    System,
+    /// A desk can't be closed. No run is known that ends so.
+    #[error("a backend can't be closed")]
+    StillOpen(CloseFault),
+    /// What is told at the end can't be written.
+    #[error("the answer can't be written")]
+    CannotWrite,
+}
+
+impl From<AllocError> for RunFault {
+    fn from(_: AllocError) -> Self {
+        RunFault::Memory
+    }
+}
+
+impl<T: Drop> From<AllocFailed<T>> for RunFault {
+    fn from(_: AllocFailed<T>) -> Self {
+        RunFault::Memory
+    }
+}
+
+impl From<BindFault> for RunFault {
+    fn from(fault: BindFault) -> Self {
+        match fault {
+            BindFault::CannotBind(address) => RunFault::Bind(address),
+            BindFault::Memory => RunFault::Memory,
+        }
+    }
+}

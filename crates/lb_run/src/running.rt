@@ -1,0 +1,115 @@
+ghost use Rattle.std.specs.Prelude.{◌≡◌, length};
+ghost use Rattle.lb_run_desks.specs.NewDesks.{AreNamed};
+
+use crate::closing::close_all;
+use crate::floor::Floor;
+use crate::starting::start_and_answer;
+use crate::{Host, RunFault};
+use command_socket_listen::CommandListener;
+use lb_config::Config;
+use lb_desk_ports::Refused;
+use lb_desk_shared::{Naming, SharedDesk};
+use lb_run_desks::{NewDesk, PassBox, named_desks, new_desks};
+use lb_run_doors::{ClientDoor, Doors};
+use std::alloc::Global;
+use std::fs::Files;
+use std::hash::RandomState;
+use std::io::Write;
+use std::marker::Brand;
+use std::sync::atomic::{AtomicBool, Ordering};
+use std::thread;
+use std::time::Instant;
+
+/// Balances the load of a configuration until the command `stop` comes over its command socket; without a socket, for ever. At the end
+/// a line `closed web events 15 rising yes` is written for each backend, in the configuration's order.
+///
+/// All addresses are bound before anything runs. Standard error is told where clients can connect, and where a check makes a server go
+/// up or down. Requests whose head was read are finished before the end.
+pub fn run_config<R: Host + Files, W: Write>(
+    rt: &R,
+    alloc: Global,
+    config: &Config,
+    out: &mut W,
+) -> Result<(), RunFault> {
+    let (Ok(hasher), Ok(start)) = (RandomState::new(rt), Instant::now(rt)) else {
+        return Err(RunFault::System);
+    };
+    let desks = new_desks(alloc, config.backends(), hasher)?;
+    let doors = Doors::open(rt, alloc, config)?;
+    run_named::<R, Brand, W>(rt, alloc, config, start, desks, doors, out)
+}
+
+/// The same, with desks whose name is picked.
+fn run_named<R: Host + Files, B: Naming + Send + Sync, W: Write>(
+    rt: &R,
+    alloc: Global,
+    config: &Config,
+    start: Instant,
+    desks: Vec<NewDesk<RandomState>>,
+    doors: Doors,
+    out: &mut W,
+) -> Result<(), RunFault>
+    requires names { AreNamed B.table_of B.opening desks.items }
+    requires each { length desks.items ≡ length config.now.backends }
+{
+    let desks = named_desks::<RandomState, B>(alloc, desks)?;
+    let passes = PassBox::new(alloc, most_passes(config))?;
+    serve(rt, alloc, config, start, &desks, &passes, doors)?;
+    close_all(alloc, config, desks, passes.into_passes(), out)
+}
+
+/// How many passes the threads have together: each worker and the operators' thread one at each desk, and each desk's checks and
+/// planner one.
+fn most_passes(config: &Config) -> usize {
+    (usize::from(config.relays()) + 3).saturating_mul(config.backends().len())
+}
+
+/// Runs all threads, and returns once all of them have ended and the operators' address is free again.
+fn serve<R: Host + Files, B: Naming + Send + Sync>(
+    rt: &R,
+    alloc: Global,
+    config: &Config,
+    start: Instant,
+    desks: &[SharedDesk<RandomState, B>],
+    passes: &PassBox<B>,
+    doors: Doors,
+) -> Result<(), RunFault>
+    requires { length desks.now ≡ length config.now.backends }
+{
+    let stop = AtomicBool::new(false);
+    let starved = AtomicBool::new(false);
+    let floor = Floor {
+        alloc,
+        config,
+        desks,
+        passes,
+        stop: &stop,
+        starved: &starved,
+        start,
+    };
+    let Doors { clients, commands } = doors;
+    let served = serve_on(rt, &floor, clients, commands.as_ref());
+    drop(floor);
+    if let Some(listener) = commands {
+        // A file that stays is replaced at the next start.
+        let _ = listener.close(rt);
+    }
+    if served.is_err() || starved.load(Ordering::SeqCst) {
+        return Err(RunFault::Memory);
+    }
+    Ok(())
+}
+
+/// Runs all threads on the floor.
+fn serve_on<R: Host, B: Naming + Send + Sync>(
+    rt: &R,
+    floor: &Floor<'_, B>,
+    clients: Vec<ClientDoor>,
+    operators: Option<&CommandListener>,
+) -> Result<(), Refused> {
+    thread::scope(thread::scope_env(), rt, move |scope| {
+        let served = start_and_answer(rt, scope, floor, clients, operators);
+        floor.stop();
+        served
+    })
+}

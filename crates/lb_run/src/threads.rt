@@ -1,0 +1,113 @@
+//! What each thread does, from its first seat to its last pass. A thread that can't begin ends the balancer.
+ghost use Rattle.std.specs.Prelude.{◌≡◌};
+
+use crate::Host;
+use crate::announcer::Announcer;
+use crate::floor::Floor;
+use check_workers_loop::check_until_stopped;
+use check_workers_system::SocketProbe;
+use check_workers_targets::{checks_of, targets_of};
+use crossbeam_channel::{Receiver, Sender};
+use http_relay_listen::{Arrival, accept_until_stopped};
+use http_relay_system::SystemClock;
+use http_relay_work::{Relay, work};
+use lb_desk_planner::{Bell, Notices, plan_when_told};
+use lb_desk_ports::{OpenGate, Refused};
+use lb_desk_shared::Naming;
+use lb_run_doors::ClientDoor;
+use std::net::TcpStream;
+
+/// Accepts the clients of a frontend until the balancer ends.
+pub(crate) fn listen<R: Host, B: Naming>(
+    rt: &R,
+    floor: &Floor<'_, B>,
+    door: ClientDoor,
+    to: Sender<Arrival<TcpStream>>,
+) {
+    let ClientDoor {
+        listener,
+        endpoint: _,
+        frontend,
+        limits,
+    } = door;
+    accept_until_stopped(rt, listener, frontend, limits, floor.stop, to);
+}
+
+/// Serves clients until no listener is left and no client waits.
+pub(crate) fn relay<R: Host, B: Naming>(
+    rt: &R,
+    floor: &Floor<'_, B>,
+    arrivals: Receiver<Arrival<TcpStream>>,
+) {
+    let Ok(seats) = floor.seats(rt) else {
+        floor.starve();
+        return;
+    };
+    let relay = Relay {
+        config: floor.config,
+        stop: floor.stop,
+        start: floor.start,
+    };
+    let seats = work(rt, floor.alloc, relay, &arrivals, OpenGate, seats);
+    floor.leave_all(rt, seats);
+}
+
+/// Checks the servers of the backend at this place until the balancer ends.
+pub(crate) fn check<R: Host, B: Naming>(
+    rt: &R,
+    floor: &Floor<'_, B>,
+    place: usize,
+    bell: Option<Bell>,
+    ends: Receiver<()>,
+) {
+    if check_backend(rt, floor, place, bell, &ends).is_err() {
+        floor.starve();
+    }
+}
+
+fn check_backend<R: Host, B: Naming>(
+    rt: &R,
+    floor: &Floor<'_, B>,
+    place: usize,
+    bell: Option<Bell>,
+    ends: &Receiver<()>,
+) -> Result<(), Refused> {
+    let (mut seat, backend) = floor.seat_at(rt, place)?;
+    let targets = targets_of(floor.alloc, backend)?;
+    let mut checks = checks_of(floor.alloc, backend)?;
+    let mut probe = SocketProbe::new(rt, &targets);
+    let mut clock = SystemClock::new(floor.start);
+    let mut flips = Announcer {
+        alloc: floor.alloc,
+        backend,
+        bell,
+    };
+    check_until_stopped(
+        rt,
+        &mut probe,
+        &mut clock,
+        &mut seat,
+        &mut flips,
+        &mut checks,
+        ends,
+    );
+    floor.leave(rt, seat);
+    Ok(())
+}
+
+/// Moves pins of the backend at this place each time that its bells ring, until all of them are gone.
+pub(crate) fn plan<R: Host, B: Naming>(
+    rt: &R,
+    floor: &Floor<'_, B>,
+    place: usize,
+    notices: Notices,
+) {
+    let Ok((mut seat, _)) = floor.seat_at(rt, place) else {
+        floor.starve();
+        return;
+    };
+    let mut notices = notices;
+    let tries = u32::from(floor.config.tries());
+    plan_when_told(rt, floor.alloc, &mut seat, &OpenGate, tries, &mut notices);
+    floor.leave(rt, seat);
+}
