@@ -78,9 +78,11 @@ def line(text: str) -> bytes:
 
 def expected_step(source: Source, words: list[str], files: dict[str, bytes]) -> Step:
     """Returns a run of which the case tells the output, and else no errors and status 0."""
+    output_to, errors_to = source.table.get("output_to"), source.table.get("errors_to")
+    output = source.text("output", None if output_to is None else "")
     return Step(
-        words, files, source.text("output"), source.text("errors", ""), source.table.get("status", 0),
-        output_to=source.table.get("output_to"), errors_to=source.table.get("errors_to"),
+        words, files, output, source.text("errors", ""), source.table.get("status", 0),
+        output_to=output_to, errors_to=errors_to,
     )
 
 
@@ -202,17 +204,57 @@ def plan_beginnings(source: Source) -> Iterator[Case]:
 # replay: scripts for a farm, with their answers
 
 
+REPLAY = ["replay", "configuration", "script"]
+SHOW = "show journal web"
+
+
+def configuration_of(source: Source) -> bytes:
+    """Returns the text of the farm that the table names, or the one that it holds."""
+    if "farm" not in source.table:
+        return source.text("configuration")
+    farm = source.path.parent / "farms" / f"{source.get('farm')}.cfg"
+    if not farm.is_file():
+        raise source.bad(f"there is no {farm}")
+    return farm.read_bytes()
+
+
 def replay_case(source: Source) -> Iterator[Case]:
     source.only("farm", "configuration", "script", *EXPECTED)
-    if "farm" in source.table:
-        farm = source.path.parent / "farms" / f"{source.get('farm')}.cfg"
-        if not farm.is_file():
-            raise source.bad(f"there is no {farm}")
-        configuration = farm.read_bytes()
-    else:
-        configuration = source.text("configuration")
-    files = {"configuration": configuration, "script": source.text("script")}
-    yield Case(source.name(), [expected_step(source, ["replay", "configuration", "script"], files)])
+    files = {"configuration": configuration_of(source), "script": source.text("script")}
+    yield Case(source.name(), [expected_step(source, REPLAY, files)])
+
+
+def replay_lines(source: Source) -> Iterator[Case]:
+    """Each row is a script's line, what it is answered, and the event that the journal has of it, if any."""
+    source.only("farm", "configuration", "rows")
+    for words, answer, *events in source.get("rows"):
+        entries = [line(f"{number} {event} -> {answer}") for number, event in enumerate(events)]
+        files = {"configuration": configuration_of(source), "script": line(words) + line(SHOW)}
+        yield Case(source.name(words), [Step(REPLAY, files, b"".join([line(answer), *entries]))])
+
+
+def replay_bad(source: Source) -> Iterator[Case]:
+    """Each row is a script's line of no form."""
+    source.only("farm", "configuration", "rows")
+    for words in source.get("rows"):
+        files = {"configuration": configuration_of(source), "script": line(words)}
+        yield Case(source.name(words), [Step(REPLAY, files, errors=line("line 1: bad script line"), status=1)])
+
+
+def replay_bytes(source: Source) -> Iterator[Case]:
+    """Each byte but some is the key of a request, which the journal spells; the farm has one server."""
+    source.only("farm", "configuration", "but")
+    keys = [byte for byte in range(256) if byte not in source.text("but")]
+    script = b"".join(b"serve 0 %c\n" % byte for byte in keys) + line(SHOW)
+    answers = ["served a made" for _ in keys]
+    answers += [f"{number} serve 0 {spelled(byte)} -> served a made" for number, byte in enumerate(keys)]
+    files = {"configuration": configuration_of(source), "script": script}
+    yield Case(source.name(), [Step(REPLAY, files, b"".join(map(line, answers)))])
+
+
+def spelled(byte: int) -> str:
+    """Returns a key's byte as journals have it: itself where it is printed and no percent sign, else its number."""
+    return chr(byte) if 0x21 <= byte <= 0x7E and byte != ord("%") else f"%{byte:02X}"
 
 
 # program: words of the command line and files, whatever the job
@@ -231,7 +273,7 @@ READERS: Mapping[str, Mapping[str, Reader]] = {
     "check": {"case": check_case, "texts": check_texts, "lines": check_lines, "keywords": check_keywords},
     "verify": {"case": verify_case, "texts": verify_texts},
     "plan": {"case": plan_case, "judged": plan_judged, "texts": plan_texts, "beginnings": plan_beginnings},
-    "replay": {"case": replay_case},
+    "replay": {"case": replay_case, "lines": replay_lines, "bad": replay_bad, "bytes": replay_bytes},
     "program": {"case": program_case},
 }
 
