@@ -68,7 +68,9 @@ def a_client_that_never_reads_holds_up_nobody_else_and_is_let_go_at_its_limit(fa
             talk.end()
 
     port, other = farm.port(), farm.port()
-    sections = listen(port, "timeout client 3s", server("m", farm.origin(sends_much)), name="much") + listen(other, *LIMITS, server("b", farm.origin()))
+    sections = listen(
+        port, "timeout client 3s", server("m", farm.origin(sends_much)), name="much"
+    ) + listen(other, *LIMITS, server("b", farm.origin()))
     balancer = farm.start(sections, ("tune.relays 2",))
     with Client(port) as client:
         client.send(GET)
@@ -121,7 +123,9 @@ def at_a_stop_an_upload_that_is_under_way_is_finished(farm: Farm) -> None:
 @case
 def at_a_stop_those_without_a_whole_head_wait_for_their_limit_or_leave_at_once(farm: Farm) -> None:
     limited, free = farm.port(), farm.port()
-    sections = listen(limited, "timeout client 4s", server("a", farm.origin()), name="limited") + listen(free, server("b", farm.origin()), name="free")
+    sections = listen(
+        limited, "timeout client 4s", server("a", farm.origin()), name="limited"
+    ) + listen(free, server("b", farm.origin()), name="free")
     balancer = farm.start(sections)
     with Client(limited) as slow, Client(limited) as late, Client(free) as silent:
         slow.send(GET[:5])
@@ -150,7 +154,9 @@ def without_a_command_socket_a_signal_ends_it(farm: Farm) -> None:
 @case
 def a_drain_under_load_moves_every_pin_and_loses_no_request(farm: Farm) -> None:
     port = farm.port()
-    balancer = farm.start(listen(port, *LIMITS, *TABLE, "option evacuate", server("a", farm.origin()), server("b", farm.origin())), ("tune.relays 16",))
+    balancer = farm.start(
+        listen(port, *LIMITS, *TABLE, "option evacuate", server("a", farm.origin()), server("b", farm.origin())), ("tune.relays 16",)
+    )
     drained = threading.Event()
 
     def comes_again(number: int) -> list[bytes]:
@@ -187,9 +193,9 @@ def requests_under_load_are_replayed_to_the_same_replies(farm: Farm) -> None:
 
     def changes(_: int) -> None:
         for place in range(6):
-            name = "abc"[place % 3]
-            balancer.tell(f"set server web/{name} state drain; plan backend web; set weight web/{name} {place}; set maxpins server web/{name} {90 + place}")
-            balancer.tell(f"set server web/{name} state ready; plan backend web; set maxconn server web/{name} {3 + place}")
+            at = f"server web/{'abc'[place % 3]}"
+            balancer.tell(f"set {at} state drain; plan backend web; set {at} weight {place}; set maxpins {at} {90 + place}")
+            balancer.tell(f"set {at} state ready; plan backend web; set maxconn {at} {3 + place}")
 
     at_once(lambda number: comes(number) if number < 16 else changes(number), range(17))
     entries = balancer.tell("show journal web")

@@ -214,7 +214,9 @@ def ends_well(balancer: Balancer, *backends: str, checked: bool = False) -> dict
         balancer.wait_all_closed(name)
         entries = balancer.journal(name)
         expect(f"no close without an open in {name}", all(entry.reply != "32 NotOpen" for entry in entries))
-        expect_equal(f"numbers of {name}", [it.number for it in entries], list(range(entries[0].number, entries[-1].number + 1)) if entries else [])
+        expect_equal(
+            f"numbers of {name}", [it.number for it in entries], list(range(entries[0].number, entries[-1].number + 1)) if entries else []
+        )
         counts[name] = entries[-1].number + 1 if entries else 0
     ended = balancer.stop()
     expect_equal("the status at the end", ended.status, 0)

@@ -313,7 +313,9 @@ def a_backend_without_a_server_for_a_request_is_503(farm: Farm) -> None:
 def an_answer_is_not_lost_where_more_bytes_come_than_are_read(farm: Farm) -> None:
     big = response(bytes(3 << 20))
     origin, port, none = farm.origin(sends(big)), farm.port(), farm.port()
-    balancer = farm.start(listen(port, *LIMITS, server("a", origin)) + section("frontend f", f"bind 127.0.0.1:{none}", "timeout client 20s"))
+    balancer = farm.start(listen(port, *LIMITS, server("a", origin)) + section(
+        "frontend f", f"bind 127.0.0.1:{none}", "timeout client 20s"
+    ))
     for _ in range(5):
         expect_equal("all of a response, with another request behind", len(ask(port, GET + GET)), len(big))
         expect_equal("an own answer, with 32 KiB behind", ask(none, GET + bytes(32 << 10)), own(503))

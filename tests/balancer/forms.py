@@ -54,9 +54,15 @@ def lengths() -> Iterator[Form]:
     """One `Content-Length`."""
     good = (b"5", b"05", b"000000000000000005", b"  5", b"5  ", b"\t5\t", b"0", b"00")
     yield from forms("a length", Due.ONE, *each_length(*good))
-    spelled = (b"", b"+5", b"-5", b"+0", b"-0", b"5,5", b"5, 5", b"5,6", b"5;5", b"5 5", b"5\t5", b"0x5", b"5x", b"x5", b"5.0", b"5.", b".5", b"5e0")
+    spelled = (
+        b"", b"+5", b"-5", b"+0", b"-0", b"5,5", b"5, 5", b"5,6", b"5;5", b"5 5", b"5\t5", b"0x5", b"5x", b"x5", b"5.0", b"5.", b".5",
+        b"5e0",
+    )  # fmt: skip
     yield from forms("a bad length", Due.REFUSED, *each_length(*spelled))
-    odd = (b"0b101", b'"5"', b"'5'", b"(5)", b"5,", b",5", b"5 ,", b"5_0", b"NaN", b"five", b"5%", b"#5", b"5\xa0", b"\xa05", "\uff15".encode(), "\u0665".encode())
+    odd = (
+        b"0b101", b'"5"', b"'5'", b"(5)", b"5,", b",5", b"5 ,", b"5_0", b"NaN", b"five", b"5%", b"#5", b"5\xa0", b"\xa05",
+        "\uff15".encode(), "\u0665".encode(),
+    )  # fmt: skip
     yield from forms("an odd length", Due.REFUSED, *each_length(*odd))
     large = (b"0000000000000000005", b"1000000000000000000", b"18446744073709551621", b"18446744073709551616", b"9" * 1000)
     yield from forms("a length of too many digits", Due.REFUSED, *each_length(*large))
@@ -71,7 +77,9 @@ def repeated_lengths() -> Iterator[Form]:
         return post(*(b"Content-Length: " + value for value in values), body=b"hello")
 
     yield from forms("equal lengths", Due.ONE, row(b"5", b"5"), row(b"5", b"05"), row(b"005", b"5", b"5"), row(b"0", b"000"))
-    differ = [(b"5", b"6"), (b"6", b"5"), (b"0", b"5"), (b"5", b"0"), (b"5", b"5", b"6"), (b"5", b"50"), (b"50", b"5"), (b"5", b"4294967301")]
+    differ = [
+        (b"5", b"6"), (b"6", b"5"), (b"0", b"5"), (b"5", b"0"), (b"5", b"5", b"6"), (b"5", b"50"), (b"50", b"5"), (b"5", b"4294967301")
+    ]  # fmt: skip
     yield from forms("lengths that differ", Due.REFUSED, *(row(*values) for values in differ))
     odd = [(b"5", b""), (b"", b"5"), (b"5", b"x"), (b"5", b"+5"), (b"5", b"5,5"), (b"5", b"5 5"), (b"5", b"0x5"), (b"5", b"-5")]
     yield from forms("a length beside a bad one", Due.REFUSED, *(row(*values) for values in odd))
@@ -83,10 +91,14 @@ def repeated_lengths() -> Iterator[Form]:
 
 
 BAD_CODINGS = (
-    b"", b"chunked, chunked", b"chunked,chunked", b"identity", b"xchunked", b"chunkedx", b"x-chunked", b"chunked;q=1", b"chunked; x", b"chunked ;x",
-    b"gzip, chunked", b"chunked, gzip", b"gzip", b"chunked,", b",chunked", b", chunked", b"chunked, identity", b"identity, chunked", b'"chunked"',
-    b"'chunked'", b"chun ked", b"chun\tked", b"chunked chunked", b"chunk", b"chunke", b"chunkedchunked", b"(chunked)", b"chunked()", b"c\xadhunked",
-    b"\xa0chunked", b"chunked\xa0", "\uff43hunked".encode(), "chun\u212aed".encode(), b"chunked\\", b"\\chunked", b"chunked:", b"x, y", b"trailers", b"cow",
+    b"", b"chunked, chunked", b"chunked,chunked", b"identity", b"xchunked", b"chunkedx", b"x-chunked", b"chunked;q=1", b"chunked; x",
+    b"chunked ;x",
+    b"gzip, chunked", b"chunked, gzip", b"gzip", b"chunked,", b",chunked", b", chunked", b"chunked, identity", b"identity, chunked",
+    b'"chunked"',
+    b"'chunked'", b"chun ked", b"chun\tked", b"chunked chunked", b"chunk", b"chunke", b"chunkedchunked", b"(chunked)", b"chunked()",
+    b"c\xadhunked",
+    b"\xa0chunked", b"chunked\xa0", "\uff43hunked".encode(), "chun\u212aed".encode(), b"chunked\\", b"\\chunked", b"chunked:", b"x, y",
+    b"trailers", b"cow",
 )  # fmt: skip
 
 
@@ -103,7 +115,10 @@ def codings() -> Iterator[Form]:
 
 def repeated_codings() -> Iterator[Form]:
     """Several `Transfer-Encoding`, and one beside a length."""
-    pairs = [(b"chunked", b"chunked"), (b"chunked", b"identity"), (b"identity", b"chunked"), (b"", b"chunked"), (b"chunked", b""), (b"gzip", b"chunked")]
+    pairs = [
+        (b"chunked", b"chunked"), (b"chunked", b"identity"), (b"identity", b"chunked"), (b"", b"chunked"), (b"chunked", b""),
+        (b"gzip", b"chunked"),
+    ]  # fmt: skip
     pairs += [(b"chunked", b"gzip"), (b"chunked", b"x"), (b"Chunked", b"CHUNKED")]
     rows = [post(b"Transfer-Encoding: " + one, b"transfer-encoding: " + other, body=CHUNKS) for one, other in pairs]
     yield from forms("two codings", Due.REFUSED, *rows)
@@ -123,18 +138,29 @@ def spoilt_names() -> Iterator[Form]:
 
     bad = (
         b"Transfer-Encoding : chunked", b"Transfer-Encoding\t: chunked", b" Transfer-Encoding: chunked", b"\tTransfer-Encoding: chunked",
-        b"Transfer-Encoding\x00: chunked", b"\x00Transfer-Encoding: chunked", b"Transfer\x00-Encoding: chunked", b"Transfer-Encoding\x0b: chunked",
-        b"Transfer-Encoding\r: chunked", b"Transfer-Encoding:\r chunked", b"Transfer-Encoding:\r\n chunked", b"Transfer-Encoding:\n\tchunked",
-        b"Transfer-Encoding", b"Transfer-Encoding chunked", b"Transfer Encoding: chunked", b": chunked", b"\xa0Transfer-Encoding: chunked",
-        "Tran\u017ffer-Encoding: chunked".encode(), b"Transfer-Encoding: chunked\r", b"X: y\rTransfer-Encoding: chunked", b"X\r\nTransfer-Encoding: chunked",
-        b"X: y\r\rTransfer-Encoding: chunked", b"X: y\n\rTransfer-Encoding: chunked", b"X: y\nTransfer-Encoding: chunked", b'"Transfer-Encoding": chunked',
-        b"Transfer-Encoding:chunked", b"(Transfer-Encoding): chunked", b"Transfer-Encoding;: chunked", b"Transfer-Encoding=: chunked", b"[x]: chunked",
+        b"Transfer-Encoding\x00: chunked", b"\x00Transfer-Encoding: chunked", b"Transfer\x00-Encoding: chunked",
+        b"Transfer-Encoding\x0b: chunked",
+        b"Transfer-Encoding\r: chunked", b"Transfer-Encoding:\r chunked", b"Transfer-Encoding:\r\n chunked",
+        b"Transfer-Encoding:\n\tchunked",
+        b"Transfer-Encoding", b"Transfer-Encoding chunked", b"Transfer Encoding: chunked", b": chunked",
+        b"\xa0Transfer-Encoding: chunked",
+        "Tran\u017ffer-Encoding: chunked".encode(), b"Transfer-Encoding: chunked\r", b"X: y\rTransfer-Encoding: chunked",
+        b"X\r\nTransfer-Encoding: chunked",
+        b"X: y\r\rTransfer-Encoding: chunked", b"X: y\n\rTransfer-Encoding: chunked", b"X: y\nTransfer-Encoding: chunked",
+        b'"Transfer-Encoding": chunked',
+        b"Transfer-Encoding:chunked", b"(Transfer-Encoding): chunked", b"Transfer-Encoding;: chunked", b"Transfer-Encoding=: chunked",
+        b"[x]: chunked",
     )  # fmt: skip
     yield from forms("a spoilt name", Due.REFUSED, *map(row, bad))
-    others = (b"Transfer_Encoding: chunked", b"X-Transfer-Encoding: chunked", b"TransferEncoding: chunked", b"TE: chunked", b"Transfer-Encoding2: chunked")
+    others = (
+        b"Transfer_Encoding: chunked", b"X-Transfer-Encoding: chunked", b"TransferEncoding: chunked", b"TE: chunked",
+        b"Transfer-Encoding2: chunked",
+    )  # fmt: skip
     yield from forms("another name", Due.ONE, *map(row, others))
     # The head ends at the first empty line, whatever it ends with.
-    yield from forms("an early end", Due.ONE, row(b"X: y\n\nTransfer-Encoding: chunked"), row(b"X: y\r\n\nTransfer-Encoding: chunked"), row(b"X: y\n"))
+    yield from forms(
+        "an early end", Due.ONE, row(b"X: y\n\nTransfer-Encoding: chunked"), row(b"X: y\r\n\nTransfer-Encoding: chunked"), row(b"X: y\n")
+    )
 
 
 def controls() -> Iterator[Form]:
@@ -155,7 +181,10 @@ def blanks_and_folds() -> Iterator[Form]:
     for blank in (b" ", b"\t"):
         for end in (b"\r\n", b"\n"):
             fold = end + blank
-            lines = (b"X: a" + fold + b"b", b"Content-Length:" + fold + b"5", b"Content-Length: 5" + fold + b"6", b"Transfer-Encoding:" + fold + b"chunked")
+            lines = (
+                b"X: a" + fold + b"b", b"Content-Length:" + fold + b"5", b"Content-Length: 5" + fold + b"6",
+                b"Transfer-Encoding:" + fold + b"chunked",
+            )  # fmt: skip
             more = (b"Transfer-Encoding: chunked" + fold + b", identity", b"X: a" + fold, b"X: a" + fold + b"Content-Length: 5")
             yield from forms(f"a fold by {fold!r}", Due.REFUSED, *(post(line, body=b"hello") for line in lines + more))
             yield Form(f"a fold by {fold!r} at the begin", b"POST / HTTP/1.1" + fold + b"Host: x\r\n\r\n" + SECOND, Due.REFUSED)
@@ -175,7 +204,10 @@ def line_ends() -> Iterator[Form]:
 
 def request_lines() -> Iterator[Form]:
     """Targets, methods and versions."""
-    good = (b"http://other/", b"http://x/second", b"*", b"//x/y", b"/a?b=c", b"/a?b=/second", b"/%00", b"/%0d%0aX:%20y", b"x", b"http://u:p@h:1/", b"/..;/", b"h:1")
+    good = (
+        b"http://other/", b"http://x/second", b"*", b"//x/y", b"/a?b=c", b"/a?b=/second", b"/%00", b"/%0d%0aX:%20y", b"x",
+        b"http://u:p@h:1/", b"/..;/", b"h:1",
+    )  # fmt: skip
     yield from forms("a target", Due.ONE, *(post(first=b"POST " + target + b" HTTP/1.1") for target in good))
     bad = (b"/a b", b"http://a b/", b"", b" /", b"/ ")
     yield from forms("a bad target", Due.REFUSED, *(post(first=b"POST " + target + b" HTTP/1.1") for target in bad))
@@ -184,7 +216,10 @@ def request_lines() -> Iterator[Form]:
     # Targets are UTF-8 here, and ASCII in RFC 9112.
     yield from forms("a target in UTF-8", Due.LAX, post(first=b"POST /\xc3\xa9 HTTP/1.1"))
     yield from forms("a target in no text", Due.REFUSED, post(first=b"POST /\xff HTTP/1.1"), post(first=b"POST /\xc3 HTTP/1.1"))
-    methods = (b"CONNECT x:1", b"CONNECT /", b"CONNECT http://x/", b"GE(T /", b" /", b"POST, /", b"P\xc3\xb6ST /", b"GET: /", b"POST\x00 /", b'"GET" /', b"GET/ /")
+    methods = (
+        b"CONNECT x:1", b"CONNECT /", b"CONNECT http://x/", b"GE(T /", b" /", b"POST, /", b"P\xc3\xb6ST /", b"GET: /", b"POST\x00 /",
+        b'"GET" /', b"GET/ /",
+    )  # fmt: skip
     yield from forms("a bad method", Due.REFUSED, *(post(first=method + b" HTTP/1.1") for method in methods))
     words = (b"connect /", b"CONNECTX /", b"M-SEARCH /", b"get /", b"OPTIONS *", b"TRACE /", b"PRI /", b"!#$%&'*+-.^_`|~ /")
     yield from forms("a method", Due.ONE, *(post(first=method + b" HTTP/1.1") for method in words))
@@ -193,8 +228,10 @@ def request_lines() -> Iterator[Form]:
 def versions() -> Iterator[Form]:
     """What stands behind a target."""
     bad = (
-        b"", b" ", b" HTTP/0.9", b" HTTP/1.2", b" HTTP/2.0", b" HTTP/2", b" HTTP/1", b" HTTP/1.", b" HTTP/1.10", b" HTTP/01.1", b" http/1.1", b" HTTP/1.1 ",
-        b"  HTTP/1.1", b"\tHTTP/1.1", b" HTTP/1.1x", b" HTTP/ 1.1", b" HTTPS/1.1", b" HTTP/1,1", b" HTTP/+1.1", b" ICY/1.1", b" HTTP/1.1\t", b" HTTP/1.1 x",
+        b"", b" ", b" HTTP/0.9", b" HTTP/1.2", b" HTTP/2.0", b" HTTP/2", b" HTTP/1", b" HTTP/1.", b" HTTP/1.10", b" HTTP/01.1",
+        b" http/1.1", b" HTTP/1.1 ",
+        b"  HTTP/1.1", b"\tHTTP/1.1", b" HTTP/1.1x", b" HTTP/ 1.1", b" HTTPS/1.1", b" HTTP/1,1", b" HTTP/+1.1", b" ICY/1.1",
+        b" HTTP/1.1\t", b" HTTP/1.1 x",
         b" HTTP/1.1\x00", b" HTTP\\1.1", b" HTTP/1.\xb9",
     )  # fmt: skip
     yield from forms("a bad version", Due.REFUSED, *(post(first=b"GET /" + version) for version in bad))
@@ -202,7 +239,10 @@ def versions() -> Iterator[Form]:
     coded = [post(b"Transfer-Encoding: chunked", body=CHUNKS, first=old), post(b"Transfer-Encoding: identity", body=b"hello", first=old)]
     coded += [post(b"Content-Length: 5", b"Transfer-Encoding: chunked", body=b"hello", first=old), post(b"Transfer-Encoding:", first=old)]
     yield from forms("a coding in HTTP/1.0", Due.REFUSED, *coded)
-    plain = [post(b"Content-Length: 5", body=b"hello", first=old), post(first=old), post(b"Connection: keep-alive", b"Content-Length: 0", first=old)]
+    plain = [
+        post(b"Content-Length: 5", body=b"hello", first=old), post(first=old),
+        post(b"Connection: keep-alive", b"Content-Length: 0", first=old),
+    ]  # fmt: skip
     yield from forms("HTTP/1.0", Due.ONE, *plain, post(b"Expect: 100-continue", b"Content-Length: 5", body=b"hello", first=old))
 
 
@@ -211,38 +251,63 @@ def garbage_before() -> Iterator[Form]:
     whole = post(b"Content-Length: 5", body=b"hello")
     yield from forms("empty lines before", Due.ONE, *(it + whole for it in (b"\r\n", b"\r\n\r\n", b"\n", b"\n\r\n", b"\r\n\n")))
     bad = (
-        b" ", b"\t", b"\x00", b"\r", b"\x0b", b"\r\n ", b"x\r\n", b"hello\r\n", b"\xef\xbb\xbf", b"\x16\x03\x01\x02\x00\x01", b"0\r\n\r\n", b"5\r\nhello\r\n",
-        b"PRI * HTTP/2.0\r\n\r\nSM\r\n\r\n", b"HTTP/1.1 200 OK\r\n\r\n", b"PROXY TCP4 1.2.3.4 1.2.3.4 1 2\r\n", b"GET /\r\n", b": x\r\n", b"\r\r\n", b"\x80",
+        b" ", b"\t", b"\x00", b"\r", b"\x0b", b"\r\n ", b"x\r\n", b"hello\r\n", b"\xef\xbb\xbf", b"\x16\x03\x01\x02\x00\x01",
+        b"0\r\n\r\n", b"5\r\nhello\r\n",
+        b"PRI * HTTP/2.0\r\n\r\nSM\r\n\r\n", b"HTTP/1.1 200 OK\r\n\r\n", b"PROXY TCP4 1.2.3.4 1.2.3.4 1 2\r\n", b"GET /\r\n", b": x\r\n",
+        b"\r\r\n", b"\x80",
     )  # fmt: skip
     yield from forms("garbage before", Due.REFUSED, *(it + whole for it in bad))
 
 
 def pipelined() -> Iterator[Form]:
     """A second request behind each kind of body, and other things there."""
-    rows = [post(), post(first=b"GET /first HTTP/1.1"), post(first=b"HEAD /first HTTP/1.1"), post(b"Content-Length: 0"), post(b"Content-Length: 5", body=b"hello")]
+    rows = [
+        post(), post(first=b"GET /first HTTP/1.1"), post(first=b"HEAD /first HTTP/1.1"), post(b"Content-Length: 0"),
+        post(b"Content-Length: 5", body=b"hello"),
+    ]  # fmt: skip
     rows += [post(b"Transfer-Encoding: chunked", body=CHUNKS), post(b"Content-Length: 5", body=b"hello", first=b"GET /first HTTP/1.1")]
-    rows += [post(b"Transfer-Encoding: chunked", body=CHUNKS, first=b"DELETE /first HTTP/1.1"), post() + 20 * SECOND, post()[:-10], post() + bytes(1000)]
+    rows += [
+        post(b"Transfer-Encoding: chunked", body=CHUNKS, first=b"DELETE /first HTTP/1.1"), post() + 20 * SECOND, post()[:-10],
+        post() + bytes(1000),
+    ]  # fmt: skip
     rows += [post(body=b"hello"), post(b"Content-Length: %d" % len(SECOND), body=SECOND), post(b"Content-Length: 6", body=b"0\r\n\r\nG")]
-    rows += [post(b"Expect: 100-continue", b"Content-Length: 5", body=b"hello"), post(b"Expect: 100-continue", b"Transfer-Encoding: chunked", body=CHUNKS)]
+    rows += [
+        post(b"Expect: 100-continue", b"Content-Length: 5", body=b"hello"),
+        post(b"Expect: 100-continue", b"Transfer-Encoding: chunked", body=CHUNKS),
+    ]  # fmt: skip
     rows += [post(b"Expect: x", b"Content-Length: 5", body=b"hello"), post(b"Expect: 100-continue")]
     upgrade = post(b"Connection: Upgrade, HTTP2-Settings", b"Upgrade: h2c", b"HTTP2-Settings: AAMAAABkAARAAAAAAAIAAAAA")
-    rows += [upgrade, post(b"Upgrade: websocket", b"Connection: upgrade"), post(b"TE: trailers"), post(b"Host: y"), post(b"Host: x y"), post(b"Host:")]
-    rows += [post(b"Trailer: X", b"Transfer-Encoding: chunked", body=CHUNKS), b"GET /first HTTP/1.1\r\n\r\n" + SECOND, b"GET / HTTP/1.0\r\n\r\n" + SECOND]
+    rows += [
+        upgrade, post(b"Upgrade: websocket", b"Connection: upgrade"), post(b"TE: trailers"), post(b"Host: y"), post(b"Host: x y"),
+        post(b"Host:"),
+    ]  # fmt: skip
+    rows += [
+        post(b"Trailer: X", b"Transfer-Encoding: chunked", body=CHUNKS), b"GET /first HTTP/1.1\r\n\r\n" + SECOND,
+        b"GET / HTTP/1.0\r\n\r\n" + SECOND,
+    ]  # fmt: skip
     yield from forms("one behind another", Due.ONE, *rows)
 
 
 def named_by_connection() -> Iterator[Form]:
     """`Connection` that names fields."""
     framing = (
-        b"Host", b"host", b"HOST", b"close, Host", b"x,host", b"Content-Length", b"content-length, close", b"\tContent-Length\t", b"Transfer-Encoding",
-        b"keep-alive, Transfer-Encoding", b"x , transfer-encoding ,y", b",,Content-Length", b"Content-Length,Content-Length", b"close,\tHost", b"host,",
+        b"Host", b"host", b"HOST", b"close, Host", b"x,host", b"Content-Length", b"content-length, close", b"\tContent-Length\t",
+        b"Transfer-Encoding",
+        b"keep-alive, Transfer-Encoding", b"x , transfer-encoding ,y", b",,Content-Length", b"Content-Length,Content-Length",
+        b"close,\tHost", b"host,",
     )  # fmt: skip
     rows = [post(b"Connection: " + value, b"Content-Length: 5", body=b"hello") for value in framing]
     rows += [post(b"Connection: close", b"connection: Content-Length", b"Content-Length: 5", body=b"hello")]
     rows += [post(b"Connection: Transfer-Encoding", b"Transfer-Encoding: chunked", body=CHUNKS), post(b"CONNECTION:transfer-encoding")]
     yield from forms("framing named by Connection", Due.REFUSED, *rows)
-    others = (b"close", b"keep-alive", b"X", b"Expect", b"Connection", b"", b",", b" , ,", b"Content-Length2", b"Cookie", b"Host;q=1", b"Content_Length", b"TE", b"Upgrade")
-    yield from forms("others named by Connection", Due.ONE, *(post(b"Connection: " + it, b"X: y", b"Content-Length: 5", body=b"hello") for it in others))
+    others = (
+        b"close", b"keep-alive", b"X", b"Expect", b"Connection", b"", b",", b" , ,", b"Content-Length2", b"Cookie", b"Host;q=1",
+        b"Content_Length", b"TE", b"Upgrade",
+    )  # fmt: skip
+    yield from forms(
+        "others named by Connection", Due.ONE,
+        *(post(b"Connection: " + it, b"X: y", b"Content-Length: 5", body=b"hello") for it in others),
+    )  # fmt: skip
 
 
 def head_forms() -> Iterator[Form]:

@@ -23,31 +23,64 @@ SIXTEEN = b"10\r\n0123456789abcdef\r\n0\r\n\r\n"
 ODD_CHUNKS = b"5;name=\"a value\"\r\nhello\r\n0A;y\r\n0123456789\r\n000;x\r\nX-T: 1\r\nContent-Length: 9\r\n\r\n"
 ROWS: list[tuple[list[str], list[str], bytes, bool]] = [
     # An upload by chunks, with a field that `Connection` names.
-    (["POST /up HTTP/1.1", "Host: x", "Connection: keep-alive, X-Foo", "X-Foo: 1", CHUNKED], ["POST /up HTTP/1.1", "Host: x", CHUNKED, CLOSE], SIXTEEN, False),
+    (
+        ["POST /up HTTP/1.1", "Host: x", "Connection: keep-alive, X-Foo", "X-Foo: 1", CHUNKED],
+        ["POST /up HTTP/1.1", "Host: x", CHUNKED, CLOSE], SIXTEEN, False,
+    ),  # fmt: skip
     (["GET /i HTTP/1.0", "X-A: 1"], ["GET /i HTTP/1.0", "X-A: 1", CLOSE], b"", False),
     (["GET / HTTP/1.1"], ["GET / HTTP/1.1", CLOSE], b"", False),
     # `Connection` and what it names, in any case.
     (["GET / HTTP/1.1", "Connection: close", "Close: 1", "X: 2"], ["GET / HTTP/1.1", "X: 2", CLOSE], b"", False),
-    (["GET / HTTP/1.1", "Connection:\t x-a , X-B,, keep-alive", "X-A: 1", "x-b: 2", "Keep-Alive: 3", "X-C: 4", "x-A: 5"], ["GET / HTTP/1.1", "X-C: 4", CLOSE], b"", False),
+    (
+        ["GET / HTTP/1.1", "Connection:\t x-a , X-B,, keep-alive", "X-A: 1", "x-b: 2", "Keep-Alive: 3", "X-C: 4", "x-A: 5"],
+        ["GET / HTTP/1.1", "X-C: 4", CLOSE], b"", False,
+    ),  # fmt: skip
     (["GET / HTTP/1.1", "CONNECTION: a", "A: 1", "B: 2", "connection: B"], ["GET / HTTP/1.1", CLOSE], b"", False),
-    (["GET / HTTP/1.1", "Connection: Upgrade", "Upgrade: websocket", "TE: trailers"], ["GET / HTTP/1.1", "TE: trailers", CLOSE], b"", False),
-    (["GET / HTTP/1.1", "Proxy-Connection: keep-alive", "Keep-Alive: 1", "Upgrade: h2c"], ["GET / HTTP/1.1", "Proxy-Connection: keep-alive", "Keep-Alive: 1", "Upgrade: h2c", CLOSE], b"", False),
+    (
+        ["GET / HTTP/1.1", "Connection: Upgrade", "Upgrade: websocket", "TE: trailers"], ["GET / HTTP/1.1", "TE: trailers", CLOSE], b"",
+        False,
+    ),  # fmt: skip
+    (
+        ["GET / HTTP/1.1", "Proxy-Connection: keep-alive", "Keep-Alive: 1", "Upgrade: h2c"],
+        ["GET / HTTP/1.1", "Proxy-Connection: keep-alive", "Keep-Alive: 1", "Upgrade: h2c", CLOSE], b"", False,
+    ),  # fmt: skip
     (["GET / HTTP/1.1", "Connection: x", "XX: 1", "X-: 2"], ["GET / HTTP/1.1", "XX: 1", "X-: 2", CLOSE], b"", False),
     # Blanks round values, values without bytes, bytes that are no ASCII.
-    (["GET / HTTP/1.1", "a: \t v w \t ", "B:", "C:v", "D:   ", "E:\t:\t"], ["GET / HTTP/1.1", "a: v w", "B: ", "C: v", "D: ", "E: :", CLOSE], b"", False),
-    (["GET / HTTP/1.1", "hOsT: x", "X: \x80\xe9\xff", "X: a\tb"], ["GET / HTTP/1.1", "hOsT: x", "X: \x80\xe9\xff", "X: a\tb", CLOSE], b"", False),
+    (
+        ["GET / HTTP/1.1", "a: \t v w \t ", "B:", "C:v", "D:   ", "E:\t:\t"],
+        ["GET / HTTP/1.1", "a: v w", "B: ", "C: v", "D: ", "E: :", CLOSE], b"", False,
+    ),  # fmt: skip
+    (
+        ["GET / HTTP/1.1", "hOsT: x", "X: \x80\xe9\xff", "X: a\tb"], ["GET / HTTP/1.1", "hOsT: x", "X: \x80\xe9\xff", "X: a\tb", CLOSE],
+        b"", False,
+    ),  # fmt: skip
     # Lengths that are said twice.
-    (["POST / HTTP/1.1", "Content-Length: 3", "content-length: 003"], ["POST / HTTP/1.1", "Content-Length: 3", "content-length: 003", CLOSE], b"abc", False),
-    (["PUT / HTTP/1.0", "Content-Length: 3", "X: 1", "Content-Length: 3"], ["PUT / HTTP/1.0", "Content-Length: 3", "X: 1", "Content-Length: 3", CLOSE], b"a\r\n", False),
-    (["GET / HTTP/1.1", "Content-Length: 000000000000000002"], ["GET / HTTP/1.1", "Content-Length: 000000000000000002", CLOSE], b"hi", False),
+    (
+        ["POST / HTTP/1.1", "Content-Length: 3", "content-length: 003"],
+        ["POST / HTTP/1.1", "Content-Length: 3", "content-length: 003", CLOSE], b"abc", False,
+    ),  # fmt: skip
+    (
+        ["PUT / HTTP/1.0", "Content-Length: 3", "X: 1", "Content-Length: 3"],
+        ["PUT / HTTP/1.0", "Content-Length: 3", "X: 1", "Content-Length: 3", CLOSE], b"a\r\n", False,
+    ),  # fmt: skip
+    (
+        ["GET / HTTP/1.1", "Content-Length: 000000000000000002"], ["GET / HTTP/1.1", "Content-Length: 000000000000000002", CLOSE], b"hi",
+        False,
+    ),  # fmt: skip
     (["POST / HTTP/1.1", "Content-Length: 0"], ["POST / HTTP/1.1", "Content-Length: 0", CLOSE], b"", False),
     # Leave to go on, and `Expect` that asks for none.
-    (["POST /e HTTP/1.1", "Host: x", "Expect: 100-continue", "Content-Length: 2"], ["POST /e HTTP/1.1", "Host: x", "Content-Length: 2", CLOSE], b"hi", True),
+    (
+        ["POST /e HTTP/1.1", "Host: x", "Expect: 100-continue", "Content-Length: 2"],
+        ["POST /e HTTP/1.1", "Host: x", "Content-Length: 2", CLOSE], b"hi", True,
+    ),  # fmt: skip
     (["POST /e HTTP/1.1", "expect: 100-Continue ", CHUNKED], ["POST /e HTTP/1.1", CHUNKED, CLOSE], SIXTEEN, True),
     (["POST /e HTTP/1.0", "Expect: 100-continue", "Content-Length: 2"], ["POST /e HTTP/1.0", "Content-Length: 2", CLOSE], b"hi", False),
     (["POST /e HTTP/1.1", "Expect: 100-continue", "Content-Length: 0"], ["POST /e HTTP/1.1", "Content-Length: 0", CLOSE], b"", False),
     (["GET /e HTTP/1.1", "Expect: 100-continue"], ["GET /e HTTP/1.1", CLOSE], b"", False),
-    (["POST /e HTTP/1.1", "Expect: 100-continue, x", "Expect: y", "Content-Length: 2"], ["POST /e HTTP/1.1", "Content-Length: 2", CLOSE], b"hi", False),
+    (
+        ["POST /e HTTP/1.1", "Expect: 100-continue, x", "Expect: y", "Content-Length: 2"],
+        ["POST /e HTTP/1.1", "Content-Length: 2", CLOSE], b"hi", False,
+    ),  # fmt: skip
     # Chunks with extensions and a trailer, and codings as they came.
     (["POST / HTTP/1.1", "TRANSFER-encoding:  CHUNKED "], ["POST / HTTP/1.1", "TRANSFER-encoding: CHUNKED", CLOSE], SIXTEEN, False),
     (["POST / HTTP/1.1", CHUNKED, "Trailer: X-T"], ["POST / HTTP/1.1", CHUNKED, "Trailer: X-T", CLOSE], ODD_CHUNKS, False),
@@ -61,9 +94,18 @@ ROWS: list[tuple[list[str], list[str], bytes, bool]] = [
 
 TAGGED: list[tuple[list[str], list[str], bytes, bool]] = [
     (["GET /i HTTP/1.0", "X-A: 1"], ["GET /i HTTP/1.0", "X-A: 1", CLOSE, "X-Forwarded-For: 127.0.0.1"], b"", False),
-    (["GET / HTTP/1.1", "X-Forwarded-For: 1.2.3.4", "X: 1"], ["GET / HTTP/1.1", "X-Forwarded-For: 1.2.3.4", "X: 1", CLOSE, "X-Forwarded-For: 127.0.0.1"], b"", False),
-    (["GET / HTTP/1.1", "Connection: x-forwarded-for", "X-Forwarded-For: 1.2.3.4"], ["GET / HTTP/1.1", CLOSE, "X-Forwarded-For: 127.0.0.1"], b"", False),
-    (["POST / HTTP/1.1", "Content-Length: 2"], ["POST / HTTP/1.1", "Content-Length: 2", CLOSE, "X-Forwarded-For: 127.0.0.1"], b"hi", False),
+    (
+        ["GET / HTTP/1.1", "X-Forwarded-For: 1.2.3.4", "X: 1"],
+        ["GET / HTTP/1.1", "X-Forwarded-For: 1.2.3.4", "X: 1", CLOSE, "X-Forwarded-For: 127.0.0.1"], b"", False,
+    ),  # fmt: skip
+    (
+        ["GET / HTTP/1.1", "Connection: x-forwarded-for", "X-Forwarded-For: 1.2.3.4"],
+        ["GET / HTTP/1.1", CLOSE, "X-Forwarded-For: 127.0.0.1"], b"", False,
+    ),  # fmt: skip
+    (
+        ["POST / HTTP/1.1", "Content-Length: 2"], ["POST / HTTP/1.1", "Content-Length: 2", CLOSE, "X-Forwarded-For: 127.0.0.1"], b"hi",
+        False,
+    ),  # fmt: skip
 ]  # fmt: skip
 
 
@@ -118,7 +160,9 @@ def empty_lines_before_a_head_and_line_ends_without_a_return_are_mended(farm: Fa
     origin, port = farm.origin(), farm.port()
     balancer = farm.start(listen(port, *LIMITS, server("a", origin)))
     due = lines("GET / HTTP/1.1", "Host: x", CLOSE)
-    for number, data in enumerate((b"\r\n\r\nGET / HTTP/1.1\nHost: x\n\n", b"\n\nGET / HTTP/1.1\r\nHost: x\n\r\n", b"\nGET / HTTP/1.1\nHost:x\r\n\n")):
+    for number, data in enumerate((
+        b"\r\n\r\nGET / HTTP/1.1\nHost: x\n\n", b"\n\nGET / HTTP/1.1\r\nHost: x\n\r\n", b"\nGET / HTTP/1.1\nHost:x\r\n\n"
+    )):
         expect_equal("the answer", ask(port, data), A)
         expect_equal("what the server got", origin.requests(number + 1)[-1], due)
     ends_well(balancer)
@@ -142,7 +186,10 @@ def a_head_has_at_most_16384_bytes_and_100_fields(farm: Farm) -> None:
     for data in good:
         expect_equal(f"the answer to {len(data)} bytes", ask(port, data), A)
     expect_equal("a long head", origin.requests(4)[0], padded(16384)[:-2] + b"Connection: close\r\n\r\n")
-    bad = [padded(16385), padded(16385, b"\r\n"), padded(20000), many_fields(101), many_fields(500), lines("GET / HTTP/1.1", *["Connection: x"] * 100, "Y: 1")]
+    bad = [
+        padded(16385), padded(16385, b"\r\n"), padded(20000), many_fields(101), many_fields(500),
+        lines("GET / HTTP/1.1", *["Connection: x"] * 100, "Y: 1"),
+    ]  # fmt: skip
     bad += [b"\r\n" * 10000, b"GET /" + 20000 * b"x", b"x" * 16384]
     for data in bad:
         expect_equal(f"the answer to {len(data)} bytes", ask(port, data), own(400))
@@ -151,8 +198,10 @@ def a_head_has_at_most_16384_bytes_and_100_fields(farm: Farm) -> None:
 
 
 RESPONSES = [
-    b"x", b"\x00\xff not http at all", b"HTTP/1.1 200 OK\r\nConnection: keep-alive\r\nContent-Length: 1000\r\n\r\nshort", b"HTTP/1.0 200 OK\r\n\r\n" + bytes(range(256)),
-    b"HTTP/1.1 100 Continue\r\n\r\nHTTP/1.1 204 No Content\r\n\r\n", b"HTTP/1.1 200 OK\r\nTransfer-Encoding: chunked\r\n\r\n5\r\nhello\r\n0\r\n\r\n",
+    b"x", b"\x00\xff not http at all", b"HTTP/1.1 200 OK\r\nConnection: keep-alive\r\nContent-Length: 1000\r\n\r\nshort",
+    b"HTTP/1.0 200 OK\r\n\r\n" + bytes(range(256)),
+    b"HTTP/1.1 100 Continue\r\n\r\nHTTP/1.1 204 No Content\r\n\r\n",
+    b"HTTP/1.1 200 OK\r\nTransfer-Encoding: chunked\r\n\r\n5\r\nhello\r\n0\r\n\r\n",
     b"HTTP/1.1 500 Oops\nbare: lf\n\n", b"HTTP/1.1 200 OK\r\nServer: a\r\nDate: today\r\n\r\n" + bytes(5 << 20),
 ]  # fmt: skip
 
@@ -161,7 +210,9 @@ RESPONSES = [
 def a_response_goes_back_byte_for_byte_whatever_it_is(farm: Farm) -> None:
     ports = [farm.port() for _ in RESPONSES]
     names = [f"w{place}" for place in range(len(RESPONSES))]
-    sections = [listen(port, *LIMITS, server("a", farm.origin(sends(data))), name=name) for port, name, data in zip(ports, names, RESPONSES)]
+    sections = [
+        listen(port, *LIMITS, server("a", farm.origin(sends(data))), name=name) for port, name, data in zip(ports, names, RESPONSES)
+    ]
     balancer = farm.start("".join(sections))
     for port, data in zip(ports, RESPONSES):
         seen = ask(port, lines("GET / HTTP/1.1"))

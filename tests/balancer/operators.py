@@ -53,16 +53,24 @@ REFUSED = [
 
 # Lines that make no event.
 FAULTS = [
-    ("frobnicate", UNKNOWN), ("SHOW plan web", UNKNOWN), ("show plan web now", UNKNOWN), ("set server web/a state stopping", UNKNOWN), ("stop now", UNKNOWN),
-    ("set server web/b health stopping", UNKNOWN), ("set server weba state drain", UNKNOWN), ("set weight web/a 1 2", UNKNOWN), ("help", UNKNOWN),
-    ("show plan we!b", UNKNOWN), ("show\tplan web", UNKNOWN), ("show stat", UNKNOWN), ("set server web/a/b state drain", UNKNOWN), ("show table -", UNKNOWN),
-    ("set", MISSING), ("show", MISSING), ("show plan", MISSING), ("set weight", MISSING), ("set weight web/a", MISSING), ("set server web/a", MISSING),
-    ("set server web/a state", MISSING), ("enable", MISSING), ("enable server", MISSING), ("plan", MISSING), ("plan backend", MISSING), ("set maxconn server web/a", MISSING),
-    ("set weight web/a x", BAD_NUMBER), ("set weight web/a -1", BAD_NUMBER), ("set weight web/a +1", BAD_NUMBER), ("set weight web/a 50%", BAD_NUMBER),
+    ("frobnicate", UNKNOWN), ("SHOW plan web", UNKNOWN), ("show plan web now", UNKNOWN), ("set server web/a state stopping", UNKNOWN),
+    ("stop now", UNKNOWN),
+    ("set server web/b health stopping", UNKNOWN), ("set server weba state drain", UNKNOWN), ("set weight web/a 1 2", UNKNOWN),
+    ("help", UNKNOWN),
+    ("show plan we!b", UNKNOWN), ("show\tplan web", UNKNOWN), ("show stat", UNKNOWN), ("set server web/a/b state drain", UNKNOWN),
+    ("show table -", UNKNOWN),
+    ("set", MISSING), ("show", MISSING), ("show plan", MISSING), ("set weight", MISSING), ("set weight web/a", MISSING),
+    ("set server web/a", MISSING),
+    ("set server web/a state", MISSING), ("enable", MISSING), ("enable server", MISSING), ("plan", MISSING), ("plan backend", MISSING),
+    ("set maxconn server web/a", MISSING),
+    ("set weight web/a x", BAD_NUMBER), ("set weight web/a -1", BAD_NUMBER), ("set weight web/a +1", BAD_NUMBER),
+    ("set weight web/a 50%", BAD_NUMBER),
     (f"set weight web/a {TWO_64}", BAD_NUMBER), ("set maxconn server web/a 0x1", BAD_NUMBER), ("set weight nowhere/x 1e3", BAD_NUMBER),
-    ("set weight shop/a 1", NO_BACKEND), ("plan backend shop", NO_BACKEND), ("show table shop", NO_BACKEND), ("show plan shop", NO_BACKEND), ("show journal shop", NO_BACKEND),
+    ("set weight shop/a 1", NO_BACKEND), ("plan backend shop", NO_BACKEND), ("show table shop", NO_BACKEND),
+    ("show plan shop", NO_BACKEND), ("show journal shop", NO_BACKEND),
     ("enable server shop/a", NO_BACKEND), ("set weight shop/a 257", NO_BACKEND),
-    ("set server web/x state drain", NO_SERVER), ("set weight web/x 257", NO_SERVER), ("disable server web/A", NO_SERVER), ("set server web/x health up", NO_SERVER),
+    ("set server web/x state drain", NO_SERVER), ("set weight web/x 257", NO_SERVER), ("disable server web/A", NO_SERVER),
+    ("set server web/x health up", NO_SERVER),
     (";;;", ""), ("", ""), ("   ", ""), (" ; ; ", ""),
 ]  # fmt: skip
 
@@ -70,7 +78,10 @@ FAULTS = [
 def farm_of_two(farm: Farm) -> Balancer:
     """A backend with a server that isn't checked and one that is, but whose first check comes when the test is long over."""
     origin = farm.origin()
-    return farm.start(listen(farm.port(), "stick-table type string size 10", server("a", origin, "maxpins 5"), server("b", origin, "maxpins 5 check inter 1h rise 1000")))
+    return farm.start(listen(
+        farm.port(), "stick-table type string size 10", server("a", origin, "maxpins 5"),
+        server("b", origin, "maxpins 5 check inter 1h rise 1000"),
+    ))  # fmt: skip
 
 
 def own_events(balancer: Balancer) -> list[str]:
@@ -115,7 +126,10 @@ def commands_of_one_line_are_answered_in_turn(farm: Farm) -> None:
     plan = "stickyplan 1\nversion 0\nserver a cap 5 price 0\nserver b cap 5 price 0\nend\n\n"
     expect_equal("a plan without pins", balancer.tell("plan backend web; show plan web"), "pins 0 unplaced 0 moved 0\n\n" + plan)
     changed = "set weight web/a 2 -> done"
-    rest = ["set weight web/a 999 -> 11 OutOfRange", "snapshot -> sheet version 0 pins 0", "install version 0 -> installed pins 0 unplaced 0 moved 0"]
+    rest = [
+        "set weight web/a 999 -> 11 OutOfRange", "snapshot -> sheet version 0 pins 0",
+        "install version 0 -> installed pins 0 unplaced 0 moved 0",
+    ]  # fmt: skip
     expect_equal("the journal", own_events(balancer), [changed, changed, *rest])
     ends_well(balancer, checked=True)
 

@@ -125,7 +125,9 @@ class Origin:
 
     def requests(self, count: int) -> list[bytes]:
         """What came over each connection, once this many connections are done. Fails where there are more."""
-        wait_until(f"{count} connections at an origin are done", lambda: len(self.talks) >= count and all(it.done.is_set() for it in self.talks))
+        wait_until(
+            f"{count} connections at an origin are done", lambda: len(self.talks) >= count and all(it.done.is_set() for it in self.talks)
+        )
         expect_equal("connections at an origin", len(self.talks), count)
         return [it.received for it in self.talks]
 

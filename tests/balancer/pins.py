@@ -20,7 +20,9 @@ def pins_move(farm: Farm, *settings: str) -> None:
     balancer = farm.start(listen(port, "stick-table type string size 10", "stick on hdr(x-id)", *servers), settings)
     expect_equal("the first answer", get(port, "x-id: k1"), A)
     expect_equal("the second answer", get(port, "x-id: k1"), A)
-    expect_equal("the pin is kept", balancer.events("web")[-3:], ["serve N k1 -> served a kept", "open a -> opened a", "close a -> closed a"])
+    expect_equal(
+        "the pin is kept", balancer.events("web")[-3:], ["serve N k1 -> served a kept", "open a -> opened a", "close a -> closed a"]
+    )
     expect_equal("drain and plan", balancer.tell(DRAIN_AND_PLAN), "\npins 1 unplaced 0 moved 1\n\n")
     expect_equal("the third answer", get(port, "x-id: k1"), B)
     expect_equal("the pin is kept where the plan put it", balancer.events("web")[-3], "serve N k1 -> served b kept")
@@ -48,7 +50,8 @@ def all_events_of_a_day_stand_in_the_journal_with_their_replies(farm: Farm) -> N
     due = [
         "expire N -> expired 0", "serve N k1 -> served a made", "open a -> opened a", "close a -> closed a",
         "expire N -> expired 0", "serve N - -> served b loose", "open b -> opened b", "close b -> closed b",
-        "set server web/a state drain -> done", "snapshot -> sheet version 2 pins 1", "install version 2 -> installed pins 1 unplaced 0 moved 1",
+        "set server web/a state drain -> done", "snapshot -> sheet version 2 pins 1",
+        "install version 2 -> installed pins 1 unplaced 0 moved 1",
     ]  # fmt: skip
     expect_equal("the journal", balancer.events("web"), due)
     plan = "stickyplan 1\nversion 2\nserver a off\nserver b cap 5 price 0\nrow 1 a b b\nend\n\n"
@@ -103,7 +106,9 @@ def each_request_has_the_key_that_the_configuration_finds_in_it(farm: Farm) -> N
 @case
 def a_table_is_shown_in_the_order_of_last_use(farm: Farm) -> None:
     port = farm.port()
-    balancer = farm.start(listen(port, "stick-table type string size 10", "stick on hdr(x-id)", server("a", farm.origin()), server("b", farm.origin())))
+    balancer = farm.start(listen(
+        port, "stick-table type string size 10", "stick on hdr(x-id)", server("a", farm.origin()), server("b", farm.origin())
+    ))
     for key in ("k1", "k2", "k1"):
         get(port, f"x-id: {key}")
     text = re.sub(r"use=\d+", "use=N", balancer.tell("show table web"))

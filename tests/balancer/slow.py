@@ -112,7 +112,10 @@ def tell(what: str, times: list[float], lost: int) -> float:
     """Tells of the requests, and gives the time within which 99 of 100 were answered."""
     slowest = times[int(len(times) * 0.99)] if times else float("inf")
     median = times[len(times) // 2] if times else float("inf")
-    print(f"{what}: {len(times)} answered, {lost} lost, half within {median * 1e3:.1f} ms, 99 of 100 within {slowest * 1e3:.1f} ms", flush=True)
+    print(
+        f"{what}: {len(times)} answered, {lost} lost, half within {median * 1e3:.1f} ms, 99 of 100 within {slowest * 1e3:.1f} ms",
+        flush=True,
+    )  # fmt: skip
     return slowest
 
 

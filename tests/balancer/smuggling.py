@@ -187,7 +187,12 @@ def the_readers_of_these_tests_tell_requests_apart(farm: Farm) -> None:
     expect("a strict server refuses a blank before a colon", isinstance(read_strictly(two), Refused))
     lenient = read_leniently(two)
     expect_equal("a lenient server takes the coding", lenient.body if isinstance(lenient, Whole) else lenient, b"")
-    expect("a body that is short is partial", isinstance(read_strictly(two[:20]), Partial) and isinstance(read_leniently(two[:20]), Partial))
+    expect(
+        "a body that is short is partial", isinstance(read_strictly(two[:20]), Partial) and isinstance(read_leniently(two[:20]), Partial)
+    )
     hidden = b"POST / HTTP/1.1\r\nTransfer-Encoding: chunked\r\n\r\n2;\nxx\r\n0\r\n\r\n"
     expect("a strict server refuses a line feed in a size line", isinstance(read_strictly(hidden), Refused))
-    expect("a lenient server ends the line there", read_leniently(hidden) == Whole(b"POST", b"/", b"HTTP/1.1", ((b"transfer-encoding", b"chunked"),), b"xx", len(hidden)))
+    expect(
+        "a lenient server ends the line there",
+        read_leniently(hidden) == Whole(b"POST", b"/", b"HTTP/1.1", ((b"transfer-encoding", b"chunked"),), b"xx", len(hidden)),
+    )  # fmt: skip

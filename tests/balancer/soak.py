@@ -207,7 +207,9 @@ def judge_replay(soak: Soak, program: Path, table: str) -> list[str]:
             differ += next(ours, "") != due
         rest = ours.read()
     say(f"{lines} events were replayed: {differ} replies differ")
-    return [f"replay: status {status}, {differ} replies and {'' if rest == table else 'the table'} differ"] if status or differ or rest != table else []
+    if status or differ or rest != table:
+        return [f"replay: status {status}, {differ} replies differ, the table is {'the same' if rest == table else 'another one'}"]
+    return []
 
 
 def write_script(events: Path, replies: Path, script: Path) -> None:

@@ -23,7 +23,9 @@ def run_words(farm: Farm, *words: str) -> Ending:
 def each_address_is_told_when_it_is_bound(farm: Farm) -> None:
     ports = [farm.port() for _ in range(3)]
     binds = (f"bind {HOST}:{ports[0]}", f"bind localhost:{ports[1]}")
-    balancer = farm.start(section("listen web", *binds, *LIMITS, server("a", farm.origin())) + listen(ports[2], server("b", farm.origin()), name="other"))
+    balancer = farm.start(section(
+        "listen web", *binds, *LIMITS, server("a", farm.origin())
+    ) + listen(ports[2], server("b", farm.origin()), name="other"))
     expect_equal("what is told", balancer.errors(), "".join(f"listening on {HOST}:{port}\n" for port in ports))
     expect_equal("both addresses of one section", [ask(port, GET) for port in ports[:2]], [A, A])
     expect_equal("events", ends_well(balancer, "web", "other"), {"web": 8, "other": 0})
