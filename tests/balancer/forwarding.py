@@ -2,11 +2,13 @@
 
 from __future__ import annotations
 
+import threading
+
 from .answers import CONTINUE, own
-from .cases import case, expect_equal
+from .cases import PATIENCE, case, expect_equal, wait_until
 from .clients import Client, ask
 from .farms import LIMITS, Farm, ends_well, listen, section, server
-from .origins import Origin, response, sends
+from .origins import Origin, Talk, response, sends
 
 A = response(b"a")
 
@@ -235,3 +237,49 @@ def large_uploads_come_whole(farm: Farm) -> None:
         due = lines("POST / HTTP/1.1", field, CLOSE, body=body)
         expect_equal(f"what the server got of {len(body)} bytes", (len(received), received == due), (len(due), True))
     ends_well(balancer)
+
+
+@case
+def each_piece_of_a_response_goes_out_before_the_next_comes(farm: Farm) -> None:
+    pieces = [b"HTTP/1.1 200 OK\r\n", b"Content-Type: text/event-stream\r\n\r\n", b"data: 1\n\n", b"d", b"ata: 2\n\n"]
+    turns = [threading.Event() for _ in pieces]
+
+    def streams(talk: Talk) -> None:
+        talk.read_request()
+        for piece, turn in zip(pieces, turns):
+            talk.send(piece)
+            turn.wait(PATIENCE)
+        talk.end()
+
+    port = farm.port()
+    balancer = farm.start(listen(port, *LIMITS, server("a", farm.origin(streams))))
+    with Client(port) as client:
+        client.send(lines("GET / HTTP/1.1"))
+        for piece, turn in zip(pieces, turns):
+            expect_equal("the next piece", client.read_bytes(len(piece)), piece)
+            turn.set()
+        expect_equal("the end", client.read_to_end(), b"")
+    ends_well(balancer)
+
+
+@case
+def each_piece_of_a_body_goes_out_before_the_next_comes(farm: Farm) -> None:
+    origin, port = farm.origin(), farm.port()
+    balancer = farm.start(listen(port, *LIMITS, server("a", origin)))
+    chunks = [b"5\r\nhello\r\n", b"1\r\n,\r\n", b"6\r\n world\r\n", b"0\r\n\r\n"]
+    rows = [("Content-Length: 12", [b"hello", b",", b" world"]), (CHUNKED, chunks)]
+    for number, (field, pieces) in enumerate(rows):
+        with Client(port) as client:
+            client.send(lines("POST / HTTP/1.1", field))
+            due = lines("POST / HTTP/1.1", field, CLOSE)
+            for piece in pieces:
+                client.send(piece)
+                due += piece
+                wait_until(f"the server has {piece!r}", lambda: has(origin, number, due))
+            expect_equal("the answer", client.read_to_end(), A)
+    ends_well(balancer)
+
+
+def has(origin: Origin, number: int, data: bytes) -> bool:
+    """Whether so many bytes came over this connection of the server, and they are these."""
+    return len(origin.talks) > number and origin.talks[number].received == data
