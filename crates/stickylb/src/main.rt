@@ -5,15 +5,19 @@
 use lb_cli::{Performed, end, perform};
 use lb_cli_words::{Error, ErrorKind, exit_status, read_words};
 use lb_run::run_text;
-use std::env;
 use std::marker::PhantomData;
 use std::net::{TcpListener, TcpStream};
 use std::process::ExitCode;
+use std::{env, io};
 
 fn main(rt: HostRuntime) -> ExitCode {
-    let Ok(words) = env::args(&rt) else {
-        let _ = eprintln!(rt; "the words of the command line can't be read");
-        return ExitCode::from(2);
+    let words = match env::args(&rt) {
+        Ok(words) => words,
+        Err(error) if error.kind() == io::ErrorKind::OutOfMemory => return out_of_memory(&rt),
+        Err(_) => {
+            let _ = eprintln!(rt; "the words of the command line can't be read");
+            return ExitCode::from(2);
+        }
     };
     let Ok(words) = words.collect::<Vec<String>>(rt.alloc()) else {
         return out_of_memory(&rt);
