@@ -1,5 +1,8 @@
-pub mod Handed
+pub mod Chunking
+pub mod Fronts
 pub mod Inputs
 pub mod Lines
 pub mod Moves
 pub mod Parts
+pub mod Rooms
+pub mod Sights

@@ -14,10 +14,12 @@
 mod at_hand;
 mod chunks;
 mod fault;
+mod front;
 mod length;
 mod response;
 mod sending;
 
 pub use fault::BodyFault;
+pub use front::BodyFront;
 pub use response::{CopyFault, copy_back};
 pub use sending::send_body;
