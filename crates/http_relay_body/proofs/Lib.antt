@@ -1,5 +1,4 @@
 pub mod Chunking
-pub mod Fronts
 pub mod Inputs
 pub mod Lines
 pub mod Moves

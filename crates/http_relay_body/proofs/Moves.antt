@@ -139,13 +139,3 @@ part_later P Q hand mid left old between new before mid_written after value late
     part_sent P hand left old new before after value (s ++ later.text)
     (take_twice hand mid left old.unread between.unread new.unread s later.text taken later.taken)
     (joins later.text later.answers) (appends_both before mid_written after s later.text sent later.sent)
-
--- what follows the first part was moved, or not
-pub then_moved : {A : Type 0} (P Q : A → List ℕ → Type 0) (hand mid left : List ℕ) (old between new : Reading) (before mid_written after : Option (List ℕ))
-    (answer : Result A BodyFault) (s : List ℕ) → Taken hand mid old.unread between.unread s → mid_written ≡ append_known before s
-    → ((value : A) (rest : List ℕ) → Q value rest → P value (s ++ rest)) → ((rest : List ℕ) → Begins P (s ++ rest) → Begins Q rest)
-    → Moved Q mid left between new mid_written after answer → Moved P hand left old new before after answer
-then_moved P Q hand mid left old between new before mid_written after (Ok value) s taken sent joins skips later =
-    part_later P Q hand mid left old between new before mid_written after value value s taken sent (joins value) later
-then_moved P Q hand mid left old between new before mid_written after (Err fault) s taken sent joins skips later =
-    fault_later P Q hand mid left old between new before mid_written after fault s taken sent skips later

@@ -23,8 +23,3 @@ JudgesInput kind input (Err Truncated) = ¬ BeginsWithBody kind input
 JudgesInput kind input (Err BadChunk) = ¬ BeginsWithBody kind input
 JudgesInput kind input (Err (Client fault)) = Unit {0}
 JudgesInput kind input (Err (Server fault)) = Unit {0}
-
--- the bytes stand in front of a body of this kind: behind them stands one of that kind, and every such body makes a whole one
-abbrev pub IsFront : BodyKind → List ℕ → BodyKind → Type 0
-IsFront kind front rest_kind =
-    (rest : List ℕ) → (IsBody rest_kind rest → IsBody kind (front ++ rest)) × (BeginsWithBody kind (front ++ rest) → BeginsWithBody rest_kind rest)
