@@ -1,0 +1,294 @@
+"""Operators at the command socket: each command with its answer, faults, and operators that don't behave."""
+
+from __future__ import annotations
+
+import contextlib
+import os
+import socket
+import stat
+from pathlib import Path
+
+from .cases import case, expect, expect_equal, wait_until
+from .clients import ask_operator, at_once, get, operator_stream
+from .farms import TABLE, Balancer, Ending, Farm, ends_well, listen, section, server
+
+UNKNOWN = "100 UnknownCommand\n\n"
+MISSING = "101 MissingWord\n\n"
+BAD_NUMBER = "102 BadNumber\n\n"
+NO_BACKEND = "103 NoBackend\n\n"
+NO_SERVER = "10 NoSuchServer\n\n"
+OUT_OF_RANGE = "11 OutOfRange\n\n"
+NOT_CHECKED = "12 NotChecked\n\n"
+TWO_64 = 1 << 64
+
+# Commands, and the event that each is in the journal.
+CHANGES = [
+    ("set server web/a state drain", "set server web/a state drain"),
+    ("set server web/a state maint", "set server web/a state maint"),
+    ("set server web/a state ready", "set server web/a state ready"),
+    ("disable server web/a", "set server web/a state maint"),
+    ("enable server web/a", "set server web/a state ready"),
+    ("set server web/b health down", "set server web/b health down"),
+    ("set server web/b health up", "set server web/b health up"),
+    ("set server web/a weight 3", "set weight web/a 3"),
+    ("set weight web/a 256", "set weight web/a 256"),
+    ("set weight web/a 0", "set weight web/a 0"),
+    ("set weight  web/a   007", "set weight web/a 7"),
+    ("set maxconn server web/a 4294967295", "set maxconn server web/a 4294967295"),
+    ("set maxconn server web/a 0", "set maxconn server web/a 0"),
+    ("set maxpins server web/a 16777216", "set maxpins server web/a 16777216"),
+    ("set maxpins server web/a 0", "set maxpins server web/a 0"),
+]
+
+# Commands that the backend is asked for, and refuses.
+REFUSED = [
+    ("set weight web/a 257", "set weight web/a 257", OUT_OF_RANGE),
+    (f"set weight web/a {TWO_64 - 1}", f"set weight web/a {TWO_64 - 1}", OUT_OF_RANGE),
+    ("set server web/a weight 1000", "set weight web/a 1000", OUT_OF_RANGE),
+    ("set maxconn server web/a 4294967296", "set maxconn server web/a 4294967296", OUT_OF_RANGE),
+    ("set maxpins server web/a 16777217", "set maxpins server web/a 16777217", OUT_OF_RANGE),
+    ("set server web/a health up", "set server web/a health up", NOT_CHECKED),
+    ("set server web/a health down", "set server web/a health down", NOT_CHECKED),
+]
+
+# Lines that make no event.
+FAULTS = [
+    ("frobnicate", UNKNOWN), ("SHOW plan web", UNKNOWN), ("show plan web now", UNKNOWN), ("set server web/a state stopping", UNKNOWN),
+    ("stop now", UNKNOWN),
+    ("set server web/b health stopping", UNKNOWN), ("set server weba state drain", UNKNOWN), ("set weight web/a 1 2", UNKNOWN),
+    ("help", UNKNOWN),
+    ("show plan we!b", UNKNOWN), ("show\tplan web", UNKNOWN), ("show stat", UNKNOWN), ("set server web/a/b state drain", UNKNOWN),
+    ("show table -", UNKNOWN),
+    ("set", MISSING), ("show", MISSING), ("show plan", MISSING), ("set weight", MISSING), ("set weight web/a", MISSING),
+    ("set server web/a", MISSING),
+    ("set server web/a state", MISSING), ("enable", MISSING), ("enable server", MISSING), ("plan", MISSING), ("plan backend", MISSING),
+    ("set maxconn server web/a", MISSING),
+    ("set weight web/a x", BAD_NUMBER), ("set weight web/a -1", BAD_NUMBER), ("set weight web/a +1", BAD_NUMBER),
+    ("set weight web/a 50%", BAD_NUMBER),
+    (f"set weight web/a {TWO_64}", BAD_NUMBER), ("set maxconn server web/a 0x1", BAD_NUMBER), ("set weight nowhere/x 1e3", BAD_NUMBER),
+    ("set weight shop/a 1", NO_BACKEND), ("plan backend shop", NO_BACKEND), ("show table shop", NO_BACKEND),
+    ("show plan shop", NO_BACKEND), ("show journal shop", NO_BACKEND),
+    ("enable server shop/a", NO_BACKEND), ("set weight shop/a 257", NO_BACKEND),
+    ("set server web/x state drain", NO_SERVER), ("set weight web/x 257", NO_SERVER), ("disable server web/A", NO_SERVER),
+    ("set server web/x health up", NO_SERVER),
+    (";;;", ""), ("", ""), ("   ", ""), (" ; ; ", ""),
+]  # fmt: skip
+
+
+def farm_of_two(farm: Farm) -> Balancer:
+    """A backend with a server that isn't checked and one that is, but whose first check comes when the test is long over."""
+    origin = farm.origin()
+    return farm.start(listen(
+        farm.port(), "stick-table type string size 10", server("a", origin, "maxpins 5"),
+        server("b", origin, "maxpins 5 check inter 1h rise 1000"),
+    ))  # fmt: skip
+
+
+def own_events(balancer: Balancer) -> list[str]:
+    """The journal without what checks filed."""
+    return [it for it in balancer.events("web") if not it.startswith("check ")]
+
+
+@case
+def each_change_is_answered_by_an_empty_line_and_is_one_event(farm: Farm) -> None:
+    balancer = farm_of_two(farm)
+    for line, _ in CHANGES:
+        expect_equal(line, balancer.tell(line), "\n")
+    expect_equal("the journal", own_events(balancer), [f"{event} -> done" for _, event in CHANGES])
+    ends_well(balancer, checked=True)
+
+
+@case
+def a_refused_change_is_told_and_is_an_event_too(farm: Farm) -> None:
+    balancer = farm_of_two(farm)
+    for line, _, answer in REFUSED:
+        expect_equal(line, balancer.tell(line), answer)
+    expect_equal("the journal", own_events(balancer), [f"{event} -> {answer.strip()}" for _, event, answer in REFUSED])
+    ends_well(balancer, checked=True)
+
+
+@case
+def a_line_that_is_no_command_is_told_as_what_it_lacks_and_is_no_event(farm: Farm) -> None:
+    balancer = farm_of_two(farm)
+    for line, answer in FAULTS:
+        expect_equal(line, balancer.tell(line), answer)
+    expect_equal("the journal", own_events(balancer), [])
+    ends_well(balancer, checked=True)
+
+
+@case
+def commands_of_one_line_are_answered_in_turn(farm: Farm) -> None:
+    balancer = farm_of_two(farm)
+    expect_equal("a change and a plan that isn't there", balancer.tell("set weight web/a 2; show plan web"), "\nno plan\n\n")
+    line = "set weight web/a 2;;nonsense ; show table web;set weight web/x 1; set weight web/a 999 ;show plan web"
+    table = "# table web type string size 10 used 0\n\n"
+    expect_equal("good ones between bad ones", balancer.tell(line), "\n" + UNKNOWN + table + NO_SERVER + OUT_OF_RANGE + "no plan\n\n")
+    plan = "stickyplan 1\nversion 0\nserver a cap 5 price 0\nserver b cap 5 price 0\nend\n\n"
+    expect_equal("a plan without pins", balancer.tell("plan backend web; show plan web"), "pins 0 unplaced 0 moved 0\n\n" + plan)
+    changed = "set weight web/a 2 -> done"
+    rest = [
+        "set weight web/a 999 -> 11 OutOfRange", "snapshot -> sheet version 0 pins 0",
+        "install version 0 -> installed pins 0 unplaced 0 moved 0",
+    ]  # fmt: skip
+    expect_equal("the journal", own_events(balancer), [changed, changed, *rest])
+    ends_well(balancer, checked=True)
+
+
+@case
+def a_backend_without_a_table_shows_none(farm: Farm) -> None:
+    balancer = farm.start(listen(farm.port(), server("a", farm.origin())))
+    expect_equal("no table", balancer.tell("show table web"), "no table\n\n")
+    expect_equal("no events", balancer.tell("show journal web"), "\n")
+    expect_equal("no plan", balancer.tell("show plan web"), "no plan\n\n")
+    expect_equal("a plan of no pins", balancer.tell("plan backend web"), "pins 0 unplaced 0 moved 0\n\n")
+    ends_well(balancer)
+
+
+@case
+def a_line_has_at_most_4096_bytes(farm: Farm) -> None:
+    balancer = farm_of_two(farm)
+    command = "show plan web"
+    expect_equal("4096 bytes", balancer.tell(command.ljust(4096)), "no plan\n\n")
+    expect_equal("4097 bytes", balancer.tell(command.ljust(4097)), UNKNOWN)
+    expect_equal("4097 bytes of commands", balancer.tell("set weight web/a 2;".ljust(4097, ";")), UNKNOWN)
+    expect_equal("100,000 bytes", balancer.tell("x" * 100_000), UNKNOWN)
+    expect_equal("many commands", balancer.tell(";".join(["show plan web"] * 292)), "no plan\n\n" * 292)
+    expect_equal("the journal", own_events(balancer), [])
+    ends_well(balancer, checked=True)
+
+
+@case
+def one_line_of_a_connection_is_answered_however_it_ends(farm: Farm) -> None:
+    balancer = farm_of_two(farm)
+    at = balancer.operators
+    expect_equal("the end of input ends a line", ask_operator(at, b"show plan web", ends=True), b"no plan\n\n")
+    expect_equal("nothing but an end", ask_operator(at, b"", ends=True), b"")
+    expect_equal("a second line isn't read", ask_operator(at, b"show plan web\nset weight web/a 5\n", ends=True), b"no plan\n\n")
+    with operator_stream(at) as stream:
+        for byte in b"show plan web\n":
+            stream.sendall(bytes([byte]))
+        expect_equal("a line byte by byte", stream.recv(100), b"no plan\n\n")
+    expect_equal("bytes that are no text", ask_operator(at, b"\xff\xfe\x00 x\n"), UNKNOWN.encode())
+    expect_equal("the journal", own_events(balancer), [])
+    ends_well(balancer, checked=True)
+
+
+@case
+def an_operator_that_says_nothing_keeps_nobody_out_for_ever(farm: Farm) -> None:
+    balancer = farm_of_two(farm)
+    with operator_stream(balancer.operators), operator_stream(balancer.operators) as half:
+        half.sendall(b"show pl")
+        expect_equal("the answer to another one", balancer.tell("show plan web"), "no plan\n\n")
+    ends_well(balancer, checked=True)
+
+
+@case
+def twenty_operators_at_once_are_all_answered(farm: Farm) -> None:
+    balancer = farm_of_two(farm)
+    answers = at_once(lambda number: balancer.tell(f"set weight web/a {number}; show plan web"), range(20))
+    expect_equal("the answers", answers, ["\nno plan\n\n"] * 20)
+    expect_equal("the changes", sorted(own_events(balancer)), sorted(f"set weight web/a {number} -> done" for number in range(20)))
+    ends_well(balancer, checked=True)
+
+
+@case
+def an_operator_that_hangs_up_is_no_hindrance_and_its_line_is_carried_out(farm: Farm) -> None:
+    balancer = farm_of_two(farm)
+    for _ in range(5):
+        with operator_stream(balancer.operators) as stream:
+            stream.sendall(b"set weight web/a 9\n" if _ == 0 else b"show jou")
+    wait_until("the change is made", lambda: own_events(balancer) == ["set weight web/a 9 -> done"])
+    with operator_stream(balancer.operators) as stream:
+        stream.sendall(b"stop\n")
+    expect_equal("the status", balancer.wait().status, 0)
+
+
+@case
+def stop_is_answered_with_the_rest_of_its_line(farm: Farm) -> None:
+    balancer = farm.start(listen(farm.port(), server("a", farm.origin())))
+    expect_equal("the line", balancer.tell("stop; show plan web; set weight web/a 3"), "\nno plan\n\n\n")
+    expect_equal("the end", balancer.wait(), Ending(0, "closed web events 1 rising yes\n", balancer.errors()))
+    expect("the socket's file is gone", not Path(str(balancer.operators)).exists())
+
+
+@case
+def the_command_socket_may_be_an_address(farm: Farm) -> None:
+    farm.operators = ("127.0.0.1", farm.port())
+    balancer = farm.start(listen(farm.port(), server("a", farm.origin())))
+    expect_equal("an answer", balancer.tell("show table web"), "no table\n\n")
+    ends_well(balancer)
+
+
+@case
+def only_the_owner_may_use_the_command_socket(farm: Farm) -> None:
+    balancer = farm.start(listen(farm.port(), server("a", farm.origin())))
+    found = os.lstat(str(balancer.operators))
+    expect("it is a socket", stat.S_ISSOCK(found.st_mode))
+    expect_equal("its mode", oct(stat.S_IMODE(found.st_mode)), oct(0o600))
+    ends_well(balancer)
+
+
+@case
+def a_socket_that_a_dead_program_left_is_replaced(farm: Farm) -> None:
+    assert isinstance(farm.operators, Path)
+    with socket.socket(socket.AF_UNIX) as dead:
+        dead.bind(str(farm.operators))
+        dead.listen()
+    expect("its file stays", farm.operators.exists())
+    balancer = farm.start(listen(farm.port(), server("a", farm.origin())))
+    expect_equal("an answer", balancer.tell("show table web"), "no table\n\n")
+    expect_equal("its mode", oct(stat.S_IMODE(os.lstat(str(farm.operators)).st_mode)), oct(0o600))
+    # A balancer that was killed leaves its own.
+    balancer.end()
+    expect("its file stays too", farm.operators.exists())
+    ends_well(farm.start(listen(farm.port(), server("a", farm.origin()))))
+
+
+@case
+def a_socket_that_somebody_listens_on_is_left_alone(farm: Farm) -> None:
+    first = farm.start(listen(farm.port(), server("a", farm.origin())))
+    second = farm.launch(listen(farm.port(), server("a", farm.origin()))).wait()
+    expect_equal("the second one's end", second, Ending(1, "", f"cannot bind {farm.operators}\n"))
+    expect_equal("the first one answers", first.tell("show table web"), "no table\n\n")
+    ends_well(first)
+
+
+@case
+def other_kinds_of_files_in_the_place_of_the_socket_are_left_alone(farm: Farm) -> None:
+    assert isinstance(farm.operators, Path)
+    path, port = farm.operators, farm.port()
+    due = Ending(1, "", f"cannot bind {path}\n")
+    path.write_text("precious")
+    expect_equal("before a file", farm.launch(listen(port)).wait(), due)
+    expect_equal("the file", path.read_text(), "precious")
+    path.unlink()
+    path.mkdir()
+    expect_equal("before a folder", farm.launch(listen(port)).wait(), due)
+    expect("the folder is there", path.is_dir())
+    path.rmdir()
+    path.symlink_to(farm.folder / "elsewhere")
+    expect_equal("before a link", farm.launch(listen(port)).wait(), due)
+    expect("the link is there", path.is_symlink())
+    path.unlink()
+    farm.operators = farm.folder / "no such folder" / "socket"
+    text = section("global", f"stats socket '{farm.operators}'") + listen(port)
+    ended = farm.launch(text, operators=False).wait()
+    expect_equal("in no folder", ended, Ending(1, "", f"cannot bind {farm.operators}\n"))
+
+
+@case
+def a_long_journal_is_shown_whole(farm: Farm) -> None:
+    port = farm.port()
+    balancer = farm.start(listen(port, *TABLE, server("a", farm.origin())))
+    count = 5000
+    lines = ";".join(["set weight web/a 1"] * 200)
+    for _ in range(count // 200):
+        expect_equal("answers", balancer.tell(lines), "\n" * 200)
+    get(port, "x-id: k")
+    expect_equal("the entries", len(balancer.journal("web")), count + 4)
+    # One that asks for it and takes nothing is let go, and keeps nobody out for ever.
+    with contextlib.ExitStack() as stack:
+        stream = stack.enter_context(operator_stream(balancer.operators))
+        stream.sendall(b"show journal web\n")
+        expect_equal("the answer to another one", balancer.tell("show plan web"), "no plan\n\n")
+    ends_well(balancer)
