@@ -2,6 +2,7 @@
 from __future__ import annotations
 
 import tomllib
+from collections import Counter
 from dataclasses import dataclass
 from pathlib import Path
 from typing import Any, Callable, Iterator, Mapping, Optional
@@ -9,6 +10,8 @@ from typing import Any, Callable, Iterator, Mapping, Optional
 from running.trying import Case, Step
 
 VALID = "configuration is valid"
+# How the faults of texts that are no plans begin: those have the numbers 40 to 43.
+TEXT_FAULTS = b"4"
 # What stands for the number of a copy in a text that is repeated.
 NUMBER = "<n>"
 
@@ -149,9 +152,29 @@ def verdict_step(files: dict[str, bytes], words: list[str], answer: str) -> Step
 
 
 def verify_case(source: Source) -> Iterator[Case]:
+    """A plan without a sheet is judged alone and, where its text is a plan's, once more for its own sheet."""
     source.only("plan", "sheet", *EXPECTED)
     files = {name: source.text(name) for name in ("plan", "sheet") if name in source.table}
-    yield Case(source.name(), [expected_step(source, verify_words(files), files)])
+    steps = [expected_step(source, verify_words(files), files)]
+    if "sheet" not in files and not source.text("output").startswith(TEXT_FAULTS):
+        files = {**files, "sheet": own_sheet(files["plan"].decode()).encode()}
+        steps.append(expected_step(source, verify_words(files), files))
+    yield Case(source.name(), steps)
+
+
+def own_sheet(plan: str) -> str:
+    """Returns the text of a plan's own sheet: of each place, set and cost it has as many pins as the plan's rows."""
+    head, version, *lines, end = plan.splitlines()
+    servers, groups = [], Counter()
+    for words in map(str.split, lines):
+        if words[0] == "server":
+            # A sheet has no prices.
+            servers.append(" ".join(words[:4]))
+        else:
+            _, count, place, _, *kind = words
+            groups[" ".join([place, *kind])] += int(count)
+    counted = [f"group {count} {group}" for group, count in groups.items()]
+    return "\n".join([head.replace("plan", "sheet"), version, *servers, *counted, end, ""])
 
 
 def verify_texts(source: Source) -> Iterator[Case]:

@@ -5,9 +5,10 @@ import os
 import subprocess
 import tempfile
 from concurrent.futures import ThreadPoolExecutor
+from contextlib import nullcontext
 from dataclasses import dataclass, field
 from pathlib import Path
-from typing import BinaryIO, Iterator, Mapping, Optional, Sequence
+from typing import BinaryIO, ContextManager, Iterator, Mapping, Optional, Sequence
 
 # Seconds after which a run counts as one that doesn't end.
 LIMIT = 120
@@ -69,32 +70,23 @@ class Trial:
     def ran(self, step: Step, folder: str) -> Ran:
         for name, content in step.files.items():
             Path(folder, name).write_bytes(content)
-        with opened(step.output_to) as output, opened(step.errors_to) as errors:
+        words = [str(self.program), *step.words]
+        with target(step.output_to) as output, target(step.errors_to) as errors:
             try:
                 run = subprocess.run(
-                    [str(self.program), *step.words], cwd=folder, stdin=subprocess.DEVNULL, stdout=output, stderr=errors,
-                    timeout=LIMIT,
+                    words, cwd=folder, stdin=subprocess.DEVNULL, stdout=output, stderr=errors, timeout=LIMIT
                 )
-                status = run.returncode
-            except subprocess.TimeoutExpired:
-                status = None
-            ran = Ran(written(output, step.output_to), written(errors, step.errors_to), status)
+                ran = Ran(run.stdout or b"", run.stderr or b"", run.returncode)
+            except subprocess.TimeoutExpired as late:
+                ran = Ran(late.stdout or b"", late.stderr or b"", None)
         if step.kept_as:
             Path(folder, step.kept_as).write_bytes(ran.output)
         return ran
 
 
-def opened(device: Optional[str]) -> BinaryIO:
-    """Opens the device, or a file that nobody else sees."""
-    return open(device, "wb", buffering=0) if device else tempfile.TemporaryFile()
-
-
-def written(file: BinaryIO, device: Optional[str]) -> bytes:
-    """Returns what stands in the file; of a device nothing is known."""
-    if device:
-        return b""
-    file.seek(0)
-    return file.read()
+def target(device: Optional[str]) -> ContextManager[int | BinaryIO]:
+    """Opens what gets a stream of a run: a pipe that is read here, or the device, of which nothing is known then."""
+    return open(device, "wb", buffering=0) if device else nullcontext(subprocess.PIPE)
 
 
 def difference_lines(step: Step, ran: Ran) -> Iterator[str]:
