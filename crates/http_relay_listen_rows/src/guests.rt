@@ -131,11 +131,12 @@ fn a_silent_client_is_dismissed(rt: HostRuntime) -> Result<(), Fail> {
     Ok(())
 }
 
-// Of three clients in a lobby for two the one that was silent for longest goes.
+// Of three clients in a lobby for two the one that was silent for longest goes, and the last is closed at the stop.
 fn oldest_goes<R: Wait + Clock + Net<Stream = TcpStream>>(
     rt: &R,
     address: SocketAddr,
     from: &Receiver<Arrival<TcpStream>>,
+    stop: &AtomicBool,
 ) -> io::Result<bool> {
     let pause = Duration::from_millis(50);
     let mut first = TcpStream::connect(rt, address)?;
@@ -148,7 +149,11 @@ fn oldest_goes<R: Wait + Clock + Net<Stream = TcpStream>>(
     thread::sleep(rt, pause);
     let mut third = TcpStream::connect(rt, address)?;
     third.write_all(b"3")?;
-    Ok(is_next(rt, from, b"2", Some(WireFault::Timeout)))
+    let second_went = is_next(rt, from, b"2", Some(WireFault::Timeout));
+    stop.store(true, Ordering::SeqCst);
+    third.set_read_timeout(Some(patience()))?;
+    let third_is_closed = matches!(third.read(&mut [0; 8]), Ok(0));
+    Ok(second_went && third_is_closed)
 }
 
 // Where one client more comes than there is room for, the one that was silent for longest goes. At a stop the others of a frontend without
@@ -162,14 +167,10 @@ fn the_oldest_leaves_a_full_lobby(rt: HostRuntime) -> Result<(), Fail> {
     let (gathered, went) = join(
         &rt,
         || gather_until_stopped(&rt, rt.alloc(), listener, rules(NONE, 2), &stop, to),
-        || {
-            let went = oldest_goes(&rt, address, &from);
-            stop.store(true, Ordering::SeqCst);
-            went
-        },
+        || oldest_goes(&rt, address, &from, &stop),
     );
     gathered?;
-    assert!(rt; went? && from.recv(&rt).is_err());
+    assert!(rt; went? && from.recv_timeout(&rt, patience()).is_err());
     Ok(())
 }
 
