@@ -35,7 +35,8 @@ def too_many_open_files_end_nothing(farm: Farm) -> None:
     resource.prlimit(balancer.process.pid, resource.RLIMIT_NOFILE, (most, most))
     with contextlib.ExitStack() as stack:
         clients = [stack.enter_context(Client(port)) for _ in range(30)]
-        wait_until("all its descriptors are in use", lambda: balancer.descriptors() == most)
+        # The system keeps one in reserve for each accept that waits.
+        wait_until("all its descriptors are in use", lambda: balancer.descriptors() >= most - 1)
         before = processor_seconds(balancer)
         threading.Event().wait(1)
         expect("it rests meanwhile", processor_seconds(balancer) - before < 0.5)
