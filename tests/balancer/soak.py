@@ -14,7 +14,7 @@ from collections import Counter
 from dataclasses import dataclass, field
 from pathlib import Path
 
-from .cases import PATIENCE
+from .cases import PATIENCE, wait_until
 from .clients import Client, ask
 from .farms import Balancer, Farm, ends_well, listen, server
 from .origins import Origin, answers
@@ -26,7 +26,7 @@ CAPACITY, SHRUNK = 4000, 2500
 # Seconds between two rounds of an operator, and between two looks at the journal.
 ROUND, LOOK = 10.0, 2.0
 # Events that the balancer remembers: far more than come between two looks.
-JOURNAL = 100_000
+JOURNAL = 30_000
 LINES = ("stick-table type string size 10000", "stick on hdr(x-id)", "balance leastconn")
 LIMITS = ("timeout client 2s", "timeout connect 5s", "timeout server 10s", "timeout queue 10s")
 
@@ -60,7 +60,8 @@ class Soak:
         self.stopped = threading.Event()
         # Seconds between two requests of a client; 0 where it asks without a rest.
         self.rest = 0.0
-        self.next_number = 0
+        # The number of the next event to keep, and how many connections those before it leave open.
+        self.next_number = self.slots = 0
         self.events, self.replies = farm.folder / "events", farm.folder / "replies"
 
     def count(self, word: str, by: int = 1) -> None:
@@ -109,18 +110,26 @@ class Soak:
 
     def looks(self) -> None:
         """Keeps the journal before it is forgotten."""
+        while not self.stopped.wait(LOOK):
+            self.look()
+
+    def look(self) -> None:
+        """Keeps what is new in the journal."""
         with self.events.open("a") as events, self.replies.open("a") as replies:
-            while True:
-                last = self.stopped.wait(LOOK)
-                for number, event, reply in split(self.balancer.tell("show journal web")):
-                    if number >= self.next_number:
-                        if number > self.next_number:
-                            self.fault(f"the journal was looked at too late: {number} behind {self.next_number}")
-                        self.next_number = number + 1
-                        events.write(f"{event}\n")
-                        replies.write(f"{reply}\n")
-                if last:
-                    return
+            for number, event, reply in split(self.balancer.tell("show journal web")):
+                if number < self.next_number:
+                    continue
+                if number > self.next_number:
+                    self.fault(f"the journal was looked at too late: {number} behind {self.next_number}")
+                self.next_number = number + 1
+                self.slots += reply.startswith("opened ") - reply.startswith("closed ")
+                events.write(f"{event}\n")
+                replies.write(f"{reply}\n")
+
+    def has_no_slot(self) -> bool:
+        """Whether no connection to a server is open."""
+        self.look()
+        return self.slots == 0
 
     def tell(self, line: str, due: str) -> None:
         answer = self.balancer.tell(line)
@@ -232,11 +241,9 @@ def judge(soak: Soak, program: Path) -> list[str]:
     sums = soak.sums
     lost = {word: count for word, count in sums.answers.items() if not re.fullmatch("200 [abc]", word)}
     faults = sums.faults + ([f"lost or refused: {lost}"] if lost else [])
-    soak.balancer.wait_all_closed("web")
-    soak.stopped.set()
-    soak.looks()
+    wait_until("no slot is open", soak.has_no_slot)
     table = soak.balancer.tell("show table web")[:-1]
-    counted = ends_well(soak.balancer)["web"]
+    counted = ends_well(soak.balancer, whole=False)["web"]
     loads = dict(Counter(re.findall(r" server=(\S+) ", table)))
     say(f"{counted} events, {soak.next_number} of them kept; pins at the end: {loads}")
     if counted != soak.next_number:

@@ -1,0 +1,233 @@
+"""Balancers at their limits: descriptors, connections that wait, backends, and what the system refuses them."""
+
+from __future__ import annotations
+
+import contextlib
+import os
+import resource
+import socket
+import subprocess
+import threading
+from pathlib import Path
+
+from .answers import own
+from .cases import case, expect, expect_equal, wait_until
+from .clients import Client, ask, at_once, get, is_refused, operator_stream
+from .farms import HOST, LIMITS, TABLE, Balancer, Ending, Farm, ends_well, listen, server
+from .origins import Gate, answers, response
+from .replaying import replies_differ
+
+A, B = response(b"a"), response(b"b")
+GET = b"GET / HTTP/1.1\r\nHost: x\r\n\r\n"
+
+
+def processor_seconds(balancer: Balancer) -> float:
+    """The processor time of the program so far."""
+    fields = Path(f"/proc/{balancer.process.pid}/stat").read_text().rpartition(")")[2].split()
+    return (int(fields[11]) + int(fields[12])) / os.sysconf("SC_CLK_TCK")
+
+
+@case
+def too_many_open_files_end_nothing(farm: Farm) -> None:
+    port = farm.port()
+    balancer = farm.start(listen(port, *LIMITS, server("a", farm.origin())), ("tune.relays 4",))
+    most = balancer.descriptors() + 8
+    resource.prlimit(balancer.process.pid, resource.RLIMIT_NOFILE, (most, most))
+    with contextlib.ExitStack() as stack:
+        clients = [stack.enter_context(Client(port)) for _ in range(30)]
+        # The system keeps one in reserve for each accept that waits.
+        wait_until("all its descriptors are in use", lambda: balancer.descriptors() >= most - 1)
+        before = processor_seconds(balancer)
+        threading.Event().wait(1)
+        expect("it rests meanwhile", processor_seconds(balancer) - before < 0.5)
+        # One more may come where one goes, and all are answered in the end.
+        for client in clients:
+            client.send(b"GET / HTTP/1.1\r\nHost: x\r\n\r\n")
+            expect("it is answered", client.read_to_end() in (A, own(503)))
+            client.stream.close()
+    wait_until("the last descriptors are free", lambda: balancer.descriptors() < most - 4)
+    expect_equal("the answer to another client", ask(port, GET), A)
+    ends_well(balancer)
+
+
+@case
+def fifteen_hundred_clients_wait_for_one_worker(farm: Farm) -> None:
+    gate, port = Gate(answers(b"a")), farm.port()
+    balancer = farm.start(listen(port, *LIMITS, server("a", farm.origin(gate))), ("tune.relays 1",))
+    with contextlib.ExitStack() as stack:
+        clients = [stack.enter_context(Client(port)) for _ in range(1500)]
+        for client in clients:
+            client.send(GET)
+        gate.wait_for(1)
+        expect_equal("operators are answered meanwhile", balancer.tell("show plan web"), "no plan\n\n")
+        gate.open()
+        for client in clients:
+            expect_equal("the answer", client.read_to_end(), A)
+            client.stream.close()
+    expect_equal("events", ends_well(balancer), {"web": 6000})
+
+
+@case
+def sixty_four_backends_run_side_by_side(farm: Farm) -> None:
+    origin, ports = farm.origin(), [farm.port() for _ in range(64)]
+    names = [f"w{place}" for place in range(64)]
+    sections = "".join(listen(port, *TABLE, "option evacuate", server("a", origin), name=name) for port, name in zip(ports, names))
+    balancer = farm.start(sections, ("tune.relays 16",))
+    expect_equal("the answers", at_once(lambda port: get(port, "x-id: k"), ports), [A] * 64)
+    expect_equal("events", ends_well(balancer, *names), dict.fromkeys(names, 4))
+
+
+@case
+def a_dial_that_takes_too_long_is_503(farm: Farm) -> None:
+    with contextlib.ExitStack() as stack:
+        silent = stack.enter_context(socket.socket())
+        silent.bind((HOST, 0))
+        silent.listen(0)
+        # The system keeps one connection or two for who doesn't accept, and lets others wait.
+        for _ in range(4):
+            waiting = stack.enter_context(socket.socket())
+            waiting.setblocking(False)
+            with contextlib.suppress(BlockingIOError):
+                waiting.connect(silent.getsockname())
+        port = farm.port()
+        lines = ("timeout client 20s", "timeout connect 300ms", "timeout server 20s")
+        balancer = farm.start(listen(port, *lines, server("a", silent.getsockname()[1])))
+        expect_equal("the answer", ask(port, GET), own(503))
+        ends_well(balancer)
+
+
+@case
+def a_balancer_starts_again_at_once_at_the_same_addresses(farm: Farm) -> None:
+    port, origin = farm.port(), farm.origin()
+    for _ in range(3):
+        balancer = farm.start(listen(port, *LIMITS, server("a", origin)))
+        expect_equal("the answers", [ask(port, GET) for _ in range(3)], [A] * 3)
+        ends_well(balancer)
+        expect("nobody listens", is_refused(port))
+
+
+@case
+def an_address_that_is_said_twice_is_taken(farm: Farm) -> None:
+    port = farm.port()
+    ended = farm.launch(listen(port, f"bind {HOST}:{port}")).wait()
+    expect_equal("the end", ended, Ending(1, "", f"cannot bind {HOST}:{port}\n"))
+
+
+@case
+def a_long_path_and_a_file_beside_the_socket_are_told(farm: Farm) -> None:
+    port = farm.port()
+    farm.operators = farm.folder / ("x" * (103 - len(str(farm.folder)) - 1))
+    ends_well(farm.start(listen(port, server("a", farm.port()))))
+    farm.operators = farm.folder / ("x" * (104 - len(str(farm.folder)) - 1))
+    ended = farm.launch(listen(port)).wait()
+    expect_equal("a path of 104 bytes", ended, Ending(1, "", f"cannot bind {farm.operators}\n"))
+    farm.operators = farm.folder / "operators"
+    beside = farm.folder / "operators.new"
+    beside.write_text("precious")
+    ended = farm.launch(listen(port)).wait()
+    expect_equal("a file where the socket is made", ended, Ending(1, "", f"cannot bind {farm.operators}\n"))
+    expect_equal("the file", beside.read_text(), "precious")
+
+
+@case
+def an_end_that_cannot_be_told_is_no_good_end(farm: Farm) -> None:
+    port, config, at = farm.port(), farm.folder / "full.cfg", farm.folder / "operators"
+    config.write_text(f"global\n  stats socket {at}\n" + listen(port, *LIMITS, server("a", farm.origin())))
+    with open("/dev/full", "wb") as full:
+        process = subprocess.Popen([str(farm.program), "run", "-f", str(config)], stdout=full, stderr=subprocess.PIPE, text=True)
+    farm.stack.callback(process.kill)
+    wait_until("it listens", lambda: not is_refused(port))
+    expect_equal("the answer", ask(port, GET), A)
+    with operator_stream(at) as stream:
+        stream.sendall(b"stop\n")
+        expect_equal("the answer to `stop`", stream.recv(10), b"\n")
+    _, told = process.communicate(timeout=30)
+    expect_equal("the end", (process.returncode, told.splitlines()[-1]), (1, "cannot write"))
+
+
+@case
+def a_balancer_whose_complaints_nobody_takes_runs_on(farm: Farm) -> None:
+    port, config, at = farm.port(), farm.folder / "full.cfg", farm.folder / "operators"
+    checked = server("a", farm.port(), "check inter 50ms fall 1")
+    config.write_text(f"global\n  stats socket {at}\n" + listen(port, *LIMITS, checked, server("b", farm.origin())))
+    with open("/dev/full", "wb") as full:
+        process = subprocess.Popen([str(farm.program), "run", "-f", str(config)], stdout=subprocess.PIPE, stderr=full, text=True)
+    farm.stack.callback(process.kill)
+    wait_until("it listens", lambda: not is_refused(port))
+    wait_until("a is down", lambda: all(ask(port, GET) == A for _ in range(4)))
+    with operator_stream(at) as stream:
+        stream.sendall(b"stop\n")
+    told, _ = process.communicate(timeout=30)
+    expect_equal("the status", process.returncode, 0)
+    expect("the end is told", told.startswith("closed web events ") and told.endswith(" rising yes\n"))
+
+
+@case
+def a_client_is_known_by_its_address(farm: Farm) -> None:
+    port, origin = farm.port(), farm.origin()
+    lines = ("option forwardfor", "stick-table type ip size 10", "stick on src", "acl near src 127.0.0.2", "use-server b if near")
+    balancer = farm.start(listen(port, *LIMITS, *lines, server("a", origin), server("b", farm.origin())))
+    for address, due in (("127.0.0.2", B), ("127.0.0.1", A), ("127.0.0.3", B), ("127.0.0.1", A)):
+        with socket.create_connection((HOST, port), 20, (address, 0)) as stream:
+            stream.sendall(GET)
+            data = b""
+            while piece := stream.recv(1000):
+                data += piece
+        expect_equal(f"who answers {address}", data, due)
+    expect("the server is told", origin.requests(2)[0].endswith(b"\r\nX-Forwarded-For: 127.0.0.1\r\n\r\n"))
+    serves = [it for it in balancer.events("web") if it.startswith("serve")]
+    due_serves = ["serve N 127.0.0.2 b -> served b made", "serve N 127.0.0.1 -> served a made", "serve N 127.0.0.3 -> served b made"]
+    expect_equal("the requests", serves, [*due_serves, "serve N 127.0.0.1 -> served a kept"])
+    ends_well(balancer)
+
+
+@case
+def a_second_stop_is_harmless(farm: Farm) -> None:
+    gate, port = Gate(answers(b"a")), farm.port()
+    balancer = farm.start(listen(port, *LIMITS, server("a", farm.origin(gate))))
+    with Client(port) as client:
+        client.send(GET)
+        gate.wait_for(1)
+        expect_equal("two in a line", balancer.tell("stop; stop"), "\n\n")
+        wait_until("nobody else is accepted", lambda: is_refused(port))
+        with contextlib.suppress(OSError, AssertionError), operator_stream(farm.folder / "operators", 0.2) as stream:
+            stream.sendall(b"stop\n")
+        gate.open()
+        expect_equal("the answer", client.read_to_end(), A)
+    ended = balancer.wait()
+    expect_equal("the end", (ended.status, ended.out), (0, "closed web events 4 rising yes\n"))
+
+
+@case
+def servers_that_come_and_go_under_load_leave_a_journal_that_is_replayed(farm: Farm) -> None:
+    port, origins = farm.port(), [farm.origin() for _ in range(3)]
+    servers = [server(name, at, "check inter 50ms fall 1 rise 1") for name, at in zip("abc", origins)]
+    lines = ("stick-table type string size 100", "stick on hdr(x-id)", "option evacuate", *servers)
+    balancer = farm.start(listen(port, *LIMITS, *lines), ("tune.relays 16",))
+    gone = threading.Event()
+
+    def comes(number: int) -> None:
+        place = 0
+        while not gone.is_set():
+            place += 1
+            answer = get(port, f"x-id: k{(number * 31 + place * 7) % 90}")
+            # A server that has just gone refuses, or ends without a byte.
+            expect(f"a server's answer or the balancer's: {answer!r}", answer[-1:] in (b"a", b"b", b"c") or answer in (own(502), own(503)))
+
+    def changes(_: int) -> None:
+        for place in range(6):
+            origins[place % 3].close()
+            wait_until("it is down", lambda: balancer.errors().count("is DOWN") > place)
+            balancer.tell(f"set server web/{'bca'[place % 3]} state drain; plan backend web")
+            origins[place % 3].open()
+            wait_until("it is up", lambda: balancer.errors().count("is UP") > place)
+            balancer.tell(f"set server web/{'bca'[place % 3]} state ready")
+        gone.set()
+
+    at_once(lambda number: comes(number) if number < 8 else changes(number), range(9))
+    for name in "abc":
+        balancer.tell(f"set server web/{name} state maint")
+    table, entries = balancer.tell("show table web"), balancer.tell("show journal web")
+    backend = "backend web\n" + "".join(f"  {line}\n" for line in lines)
+    expect_equal("replies that differ", replies_differ(farm.program, farm.folder, backend, entries, table), [])
+    ends_well(balancer, checked=True)
