@@ -4,15 +4,15 @@ from __future__ import annotations
 
 import contextlib
 import os
+import re
 import resource
 import socket
-import subprocess
 import threading
 from pathlib import Path
 
 from .answers import own
-from .cases import case, expect, expect_equal, wait_until
-from .clients import Client, ask, at_once, get, is_refused, operator_stream
+from .cases import PATIENCE, case, expect, expect_equal, wait_until
+from .clients import Client, ask, ask_operator, at_once, get, is_refused, operator_stream
 from .farms import HOST, LIMITS, TABLE, Balancer, Ending, Farm, ends_well, listen, server
 from .origins import Gate, answers, response
 from .replaying import replies_differ
@@ -129,37 +129,30 @@ def a_long_path_and_a_file_beside_the_socket_are_told(farm: Farm) -> None:
     expect_equal("the file", beside.read_text(), "precious")
 
 
+FULL = Path("/dev/full")
+
+
 @case
 def an_end_that_cannot_be_told_is_no_good_end(farm: Farm) -> None:
-    port, config, at = farm.port(), farm.folder / "full.cfg", farm.folder / "operators"
-    config.write_text(f"global\n  stats socket {at}\n" + listen(port, *LIMITS, server("a", farm.origin())))
-    with open("/dev/full", "wb") as full:
-        process = subprocess.Popen([str(farm.program), "run", "-f", str(config)], stdout=full, stderr=subprocess.PIPE, text=True)
-    farm.stack.callback(process.kill)
+    port, at, err = farm.port(), farm.folder / "operators", farm.folder / "told"
+    process = farm.spawn(f"global\n  stats socket {at}\n" + listen(port, *LIMITS, server("a", farm.origin())), FULL, err)
     wait_until("it listens", lambda: not is_refused(port))
     expect_equal("the answer", ask(port, GET), A)
-    with operator_stream(at) as stream:
-        stream.sendall(b"stop\n")
-        expect_equal("the answer to `stop`", stream.recv(10), b"\n")
-    _, told = process.communicate(timeout=30)
-    expect_equal("the end", (process.returncode, told.splitlines()[-1]), (1, "cannot write"))
+    expect_equal("the answer to `stop`", ask_operator(at, b"stop\n"), b"\n")
+    expect_equal("the status", process.wait(PATIENCE), 1)
+    expect_equal("what is told", err.read_text().splitlines()[1:], ["cannot write"])
 
 
 @case
 def a_balancer_whose_complaints_nobody_takes_runs_on(farm: Farm) -> None:
-    port, config, at = farm.port(), farm.folder / "full.cfg", farm.folder / "operators"
-    checked = server("a", farm.port(), "check inter 50ms fall 1")
-    config.write_text(f"global\n  stats socket {at}\n" + listen(port, *LIMITS, checked, server("b", farm.origin())))
-    with open("/dev/full", "wb") as full:
-        process = subprocess.Popen([str(farm.program), "run", "-f", str(config)], stdout=subprocess.PIPE, stderr=full, text=True)
-    farm.stack.callback(process.kill)
+    port, at, out = farm.port(), farm.folder / "operators", farm.folder / "told"
+    servers = (server("a", farm.port(), "check inter 50ms fall 1"), server("b", farm.origin()))
+    process = farm.spawn(f"global\n  stats socket {at}\n" + listen(port, *LIMITS, *servers), out, FULL)
     wait_until("it listens", lambda: not is_refused(port))
     wait_until("a is down", lambda: all(ask(port, GET) == A for _ in range(4)))
-    with operator_stream(at) as stream:
-        stream.sendall(b"stop\n")
-    told, _ = process.communicate(timeout=30)
-    expect_equal("the status", process.returncode, 0)
-    expect("the end is told", told.startswith("closed web events ") and told.endswith(" rising yes\n"))
+    expect_equal("the answer to `stop`", ask_operator(at, b"stop\n"), b"\n")
+    expect_equal("the status", process.wait(PATIENCE), 0)
+    expect("the end is told", re.fullmatch(r"closed web events \d+ rising yes\n", out.read_text()) is not None)
 
 
 @case

@@ -3,6 +3,7 @@
 from __future__ import annotations
 
 import argparse
+import signal
 import sys
 import time
 import traceback
@@ -12,7 +13,7 @@ from pathlib import Path
 
 from . import checks, crowds, faults, forwarding, limits, operators, pins, queues, smuggling, soak, slow, starts
 from .cases import CASES, Case, Failure
-from .farms import Farm
+from .farms import Farm, end_all
 
 ROOT = Path(__file__).resolve().parent.parent.parent
 PROGRAM = ROOT / "crates" / "stickylb" / "out" / "stickylb"
@@ -73,6 +74,8 @@ def words() -> argparse.Namespace:
 
 
 def main() -> int:
+    for ending in (signal.SIGINT, signal.SIGTERM, signal.SIGHUP):
+        signal.signal(ending, end_all)
     said = words()
     jobs = [word for word in said.words if word in ("soak", "slow")]
     programs = [word for word in said.words if word not in ("soak", "slow")]
