@@ -3,6 +3,7 @@
 from __future__ import annotations
 
 import argparse
+import resource
 import signal
 import sys
 import time
@@ -73,7 +74,14 @@ def words() -> argparse.Namespace:
     return parser.parse_args()
 
 
+def use_all_descriptors() -> None:
+    """Clients and servers of all tests are sockets of this program, and it has as many as the system lets it."""
+    _, most = resource.getrlimit(resource.RLIMIT_NOFILE)
+    resource.setrlimit(resource.RLIMIT_NOFILE, (most, most))
+
+
 def main() -> int:
+    use_all_descriptors()
     for ending in (signal.SIGINT, signal.SIGTERM, signal.SIGHUP):
         signal.signal(ending, end_all)
     said = words()
