@@ -25,7 +25,7 @@ class Repository:
             head, _, uses = line.partition("#")[0].partition(":")
             if head.strip():
                 self.lines[head.split()[0]] = (head.strip(), uses.replace(",", " ").split())
-        self.version = subprocess.run(["rt", "version"], stdout=subprocess.PIPE, check=True).stdout.decode().strip()
+        self.logic = logic_of_toolchain()
 
     def below(self, crate: str) -> List[str]:
         """Returns the repository's crates that this one stands on, each after those that it stands on."""
@@ -51,7 +51,7 @@ class Repository:
 
     def digest(self, crate: str) -> str:
         """Returns the sum over all that the verdicts on this crate's edits depend on."""
-        total = hashlib.sha256(self.version.encode())
+        total = hashlib.sha256(self.logic.encode())
         total.update(repr(sorted(self.edits(crate).items())).encode())
         for it in sorted([crate, *self.below(crate)]):
             total.update(self.sum_of_texts(it).encode())
@@ -64,6 +64,12 @@ class Repository:
             said = repr((head, sorted(uses), texts_without_tests(self.texts(crate))))
             self.sums[crate] = hashlib.sha256(said.encode(errors="surrogateescape")).hexdigest()
         return self.sums[crate]
+
+
+def logic_of_toolchain() -> str:
+    """Returns the digest of the logic by which the prover judges. What it refuses doesn't hang on which release of the toolchain has it."""
+    version = subprocess.run(["rt", "version"], stdout=subprocess.PIPE, check=True).stdout.decode().strip()
+    return version.rpartition(" logic ")[2]
 
 
 TESTS = re.compile(r"\s*#\[cfg\(test\)\]\s*mod\s+(\w+)\s*([;{])")

@@ -147,6 +147,22 @@ const AS_TABLES: [(&[&str], Job); 6] = [
     (&["stickylb", "--version"], Job::Version),
 ];
 
+/// Words of `run`.
+const RUN: [(&[&str], Job); 3] = [
+    (
+        &["stickylb", "run", "-f", "web.cfg"],
+        Job::Run { file: "web.cfg" },
+    ),
+    (
+        &["stickylb", "run", "-fweb.cfg"],
+        Job::Run { file: "web.cfg" },
+    ),
+    (
+        &["stickylb", "run", "-f=web.cfg", "--"],
+        Job::Run { file: "web.cfg" },
+    ),
+];
+
 /// Words of `replay`.
 const REPLAY: [(&[&str], Job); 5] = [
     (
@@ -199,7 +215,8 @@ fn words_and_the_jobs_that_they_ask_for(rt: HostRuntime) -> Result<(), Fail> {
     expect_jobs(&rt, rt.alloc(), &PLAN_AND_CHECK)?;
     expect_jobs(&rt, rt.alloc(), &FOR_A_SHEET)?;
     expect_jobs(&rt, rt.alloc(), &AS_TABLES)?;
-    expect_jobs(&rt, rt.alloc(), &REPLAY)
+    expect_jobs(&rt, rt.alloc(), &REPLAY)?;
+    expect_jobs(&rt, rt.alloc(), &RUN)
 }
 
 /// Wrong words, without a command or of `verify`.
@@ -310,6 +327,16 @@ const WRONG_WITH_OPTIONS: [(&[&str], ErrorKind); 7] = [
     (&["stickylb", "-V"], ErrorKind::UnknownArgument),
 ];
 
+/// Wrong words of `run`.
+const WRONG_OF_RUN: [(&[&str], ErrorKind); 3] = [
+    (&["stickylb", "run"], ErrorKind::MissingRequiredArgument),
+    (&["stickylb", "run", "web.cfg"], ErrorKind::UnknownArgument),
+    (
+        &["stickylb", "run", "-f", "a", "b"],
+        ErrorKind::UnknownArgument,
+    ),
+];
+
 /// Wrong words of `replay`.
 const WRONG_OF_REPLAY: [(&[&str], ErrorKind); 4] = [
     (&["stickylb", "replay"], ErrorKind::MissingRequiredArgument),
@@ -346,13 +373,14 @@ fn other_words_are_refused(rt: HostRuntime) -> Result<(), Fail> {
     expect_refused(&rt, rt.alloc(), &WRONG_OF_OTHERS)?;
     expect_refused(&rt, rt.alloc(), &WRONG_FOR_A_SHEET)?;
     expect_refused(&rt, rt.alloc(), &WRONG_WITH_OPTIONS)?;
-    expect_refused(&rt, rt.alloc(), &WRONG_OF_REPLAY)
+    expect_refused(&rt, rt.alloc(), &WRONG_OF_REPLAY)?;
+    expect_refused(&rt, rt.alloc(), &WRONG_OF_RUN)
 }
 
 // Help is no mistake and goes to the standard output.
 #[test]
 fn help_ends_well(rt: HostRuntime) -> Result<(), Fail> {
-    let helped: [&[&str]; 12] = [
+    let helped: [&[&str]; 13] = [
         &["stickylb", "--help"],
         &["stickylb", "-h"],
         &["stickylb", "verify", "--help"],
@@ -365,6 +393,7 @@ fn help_ends_well(rt: HostRuntime) -> Result<(), Fail> {
         &["stickylb", "verify", "a", "--sheet=b", "-h"],
         &["stickylb", "plan", "--table", "-h"],
         &["stickylb", "replay", "a", "b", "--help"],
+        &["stickylb", "run", "-f", "a", "--help"],
     ];
     for words in helped {
         let error = read_words(rt.alloc(), words).err().ok_or("an error")?;

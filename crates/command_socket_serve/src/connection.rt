@@ -4,13 +4,14 @@ ghost use Rattle.std.specs.Io.BufRead.{strip_last};
 ghost use Rattle.command_socket_serve.specs.Lines.{IsTextOf, Serves, line_in};
 
 use crate::line::{Next, answer_line};
+use crate::printing::{Printed, print_end, print_refused};
 use crate::{Console, Told};
-use lb_desk_ports::Gate;
+use lb_desk_ports::{Gate, Refused};
 use lb_desk_steer::Steer;
 use lb_types_counted::Counted;
 use std::alloc::Global;
 use std::io;
-use std::io::{BufRead, BufReader, BufWriter, Read, Write};
+use std::io::{BufRead, BufReader, BufWriter, ErrorKind, Read, Write};
 use std::net::OpenStream;
 use std::time::Duration;
 
@@ -24,7 +25,8 @@ const MOST_READ: u64 = 4098;
 /// client sends. The caller closes the connection. There is a desk for each backend of the configuration, in its order.
 ///
 /// A line of more than 4,096 bytes is answered as one `100 UnknownCommand`; what stands behind the first 4,098 bytes is not read. A client
-/// that says nothing for `MOST_SILENT_MILLIS`, or whose connection fails, is let go without an answer, and nothing is carried out.
+/// that says nothing for `MOST_SILENT_MILLIS`, or whose connection fails, is let go without an answer, and nothing is carried out. Where
+/// there is not memory enough to read the line, `out of memory` is the answer.
 pub fn serve_connection<R, S: Steer<R>, G: Gate<R>, T: Told, C: Read + Write + OpenStream>(
     rt: &R,
     alloc: Global,
@@ -38,8 +40,15 @@ pub fn serve_connection<R, S: Steer<R>, G: Gate<R>, T: Told, C: Read + Write + O
         (T.told told.old) (T.told told.new) result }
     ensures seats { length desks.new ≡ length desks.old }
 {
-    let Ok(text) = read_text(alloc, stream) else {
-        return Next::GoOn;
+    let text = match read_text(alloc, stream) {
+        Ok(text) => text,
+        Err(error) => {
+            if error.kind() == ErrorKind::OutOfMemory {
+                // A client that doesn't take it changes nothing for others.
+                let _ = refuse_line(stream);
+            }
+            return Next::GoOn;
+        }
     };
     let line = line_in(&text);
     let Ok(buffered) = BufWriter::new(alloc, &mut *stream) else {
@@ -51,6 +60,13 @@ pub fn serve_connection<R, S: Steer<R>, G: Gate<R>, T: Told, C: Read + Write + O
     // A client that doesn't take its answer changes nothing for others.
     let _ = out.flush();
     answered.next
+}
+
+/// Tells that there is not memory enough to read a line.
+fn refuse_line<W: Write>(out: &mut W) -> Printed {
+    let mut out = Counted::new(out);
+    let printed = print_refused(&mut out, Ok(()), Refused::Memory);
+    print_end(&mut out, printed)
 }
 
 /// Reads the first line of a connection, with its end. It takes memory for 8,192 bytes beside the line.

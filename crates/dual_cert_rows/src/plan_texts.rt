@@ -1,7 +1,7 @@
 use crate::checking::line_of;
 use crate::plans;
 use cert_check::check;
-use dual_cert::{Plan, ReadError, Sheet, read_plan, read_sheet, write_plan, write_sheet};
+use dual_cert::{Plan, Sheet, read_plan, read_sheet, write_plan, write_sheet};
 use lb_types::Counted;
 use std::alloc::Global;
 use std::process::Abort;
@@ -52,31 +52,6 @@ fn plans_go_round_and_are_judged(rt: HostRuntime) -> Result<(), Fail> {
         expect_plan(&rt, rt.alloc(), &text, line)?;
     }
     Ok(())
-}
-
-/// The first fault is this one.
-fn expect_fault(rt: &impl Abort, alloc: Global, text: &str, fault: &str) -> Result<(), Fail> {
-    match read_plan(alloc, text.as_bytes()) {
-        Ok(_) => Err(Fail::new("the text is a plan's")),
-        Err(ReadError::Memory) => Err(Fail::new("out of memory")),
-        Err(ReadError::Fault(found)) => {
-            assert_eq!(rt; found.text(alloc)?.as_str(), fault, "{text}");
-            Ok(())
-        }
-    }
-}
-
-#[test]
-fn texts_that_are_no_plans_have_their_first_faults(rt: HostRuntime) -> Result<(), Fail> {
-    for (text, fault) in plans::NO_PLANS {
-        expect_fault(&rt, rt.alloc(), text, fault)?;
-    }
-    for (count, usage, lines, fault) in plans::NO_PLANS_OF_MANY_SERVERS {
-        let text = plans::plan_of_servers(rt.alloc(), count, usage, lines)?;
-        expect_fault(&rt, rt.alloc(), &text, fault)?;
-    }
-    let text = plans::plan_of_a_thousand_digits(rt.alloc())?;
-    expect_fault(&rt, rt.alloc(), &text, "41 TooLarge")
 }
 
 #[test]

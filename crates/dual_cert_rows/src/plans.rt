@@ -1,9 +1,9 @@
-//! Texts of plans, each with what is said of it: what the check finds of it, or its first fault as a text.
+//! Texts of plans, each with what the check finds of it.
 
 use std::alloc::{AllocError, Global};
 
 /// Plans, those that are best and those that the check refuses, each for its own sheet.
-pub const PLANS: [(&str, &str); 24] = [
+pub(crate) const PLANS: [(&str, &str); 24] = [
     (
         "stickyplan 1\nversion 0\nserver a cap 2 price 0\nend\n",
         "best pins 0 unplaced 0 moved 0",
@@ -123,7 +123,7 @@ pub const PLANS: [(&str, &str); 24] = [
 ];
 
 /// Plans for a table of two servers. A table would turn some of them away that are best for their own sheets.
-pub const INSTALLED: [(&str, &str); 8] = [
+pub(crate) const INSTALLED: [(&str, &str); 8] = [
     (
         "stickyplan 1\nversion 1\nserver a cap 5 price 0\nserver b cap 5 price 0\nrow 1 a a a,b\nend\n",
         "best pins 1 unplaced 0 moved 0",
@@ -162,7 +162,7 @@ pub const INSTALLED: [(&str, &str); 8] = [
 ];
 
 /// Plans with the largest numbers, and without servers.
-pub const AT_LIMITS: [(&str, &str); 6] = [
+pub(crate) const AT_LIMITS: [(&str, &str); 6] = [
     (
         "stickyplan 1\nversion 9223372036854775808\nend\n",
         "best pins 0 unplaced 0 moved 0",
@@ -193,7 +193,7 @@ pub const AT_LIMITS: [(&str, &str); 6] = [
 ];
 
 /// Plans of many servers: how many there are called `s1`, `s2` and so on, the usage of each, and what stands behind them.
-pub const OF_MANY_SERVERS: [(u32, &str, &str, &str); 5] = [
+pub(crate) const OF_MANY_SERVERS: [(u32, &str, &str, &str); 5] = [
     // The set of the 64th server stands before that of the 65th, and both before the set of the two. The third pin finds no
     // room: cost 1 + 1 + 4, bound 4 + 4 + 4 - 3 - 3.
     (
@@ -230,244 +230,8 @@ pub const OF_MANY_SERVERS: [(u32, &str, &str, &str); 5] = [
     ),
 ];
 
-/// Texts that are no plans, each with its first fault.
-pub const NO_PLANS: [(&str, &str); 65] = [
-    // The text ends before the line end of `end`.
-    ("", "43 Truncated"),
-    ("stickyplan 1\nversion 1", "43 Truncated"),
-    (
-        "stickyplan 1\nversion 1\nserver a off\nserver b cap 1 price 1\nrow 1 a b b\n",
-        "43 Truncated",
-    ),
-    ("stickyplan 1\nversion 1\nend", "43 Truncated"),
-    ("stickyplan 2\nversion 1\nend", "43 Truncated"),
-    // Something stands behind `end`.
-    ("stickyplan 1\nversion 1\nend\nx", "40 BadLine 4"),
-    ("stickyplan 1\nversion 1\nend\n\n", "40 BadLine 4"),
-    // The heading.
-    ("stickyplan 3\nversion 1\nend\n", "40 BadLine 1"),
-    ("stickyplan 01\nversion 1\nend\n", "40 BadLine 1"),
-    ("stickysheet 1\nversion 1\nend\n", "40 BadLine 1"),
-    ("end\n", "40 BadLine 1"),
-    ("stickyplan 1\nend\n", "40 BadLine 2"),
-    ("stickyplan 1\nversion 01\nend\n", "40 BadLine 2"),
-    (
-        "stickyplan 1\nversion 9223372036854775809\nend\n",
-        "41 TooLarge",
-    ),
-    ("stickyplan 1\nversion 1 \nend\n", "40 BadLine 2"),
-    ("stickyplan 1\nversion 1\n\nend\n", "40 BadLine 3"),
-    // Servers.
-    (
-        "stickyplan 1\nversion 1\nserver a cap 4294967296 price 0\nend\n",
-        "41 TooLarge",
-    ),
-    (
-        "stickyplan 1\nversion 1\nserver a cap 0 price 1099511627776\nend\n",
-        "41 TooLarge",
-    ),
-    // A line with a misspelt and a too large number.
-    (
-        "stickyplan 1\nversion 1\nserver a cap 4294967296 price 00\nend\n",
-        "40 BadLine 3",
-    ),
-    (
-        "stickyplan 1\nversion 1\nserver a cap 1\nend\n",
-        "40 BadLine 3",
-    ),
-    (
-        "stickyplan 1\nversion 1\nserver a off 1\nend\n",
-        "40 BadLine 3",
-    ),
-    (
-        "stickyplan 1\nversion 1\nserver - off\nend\n",
-        "40 BadLine 3",
-    ),
-    (
-        "stickyplan 1\nversion 1\nserver a off\nserver a off\nend\n",
-        "40 BadLine 4",
-    ),
-    (
-        "stickyplan 1\nversion 1\nrow 1 - - -\nserver a off\nend\n",
-        "40 BadLine 4",
-    ),
-    (
-        "stickyplan 1\nversion 1\nserver a off\r\nend\n",
-        "40 BadLine 3",
-    ),
-    // Rows.
-    (
-        "stickyplan 1\nversion 1\nserver a cap 5 price 0\nrow 0 a a a\nend\n",
-        "40 BadLine 4",
-    ),
-    (
-        "stickyplan 1\nversion 1\nserver a cap 5 price 0\nrow 01 a a a\nend\n",
-        "40 BadLine 4",
-    ),
-    (
-        "stickyplan 1\nversion 1\nserver a cap 5 price 0\nrow 1 a a a \nend\n",
-        "40 BadLine 4",
-    ),
-    (
-        "stickyplan 1\nversion 1\nserver a cap 5 price 0\nrow 1 x a a\nend\n",
-        "40 BadLine 4",
-    ),
-    (
-        "stickyplan 1\nversion 1\nserver a cap 5 price 0\nrow 1 a x a\nend\n",
-        "40 BadLine 4",
-    ),
-    (
-        "stickyplan 1\nversion 1\nserver a off\nrow 1 a - a\nend\n",
-        "40 BadLine 4",
-    ),
-    (
-        "stickyplan 1\nversion 1\nserver a cap 5 price 0\nrow 1 a a a,-\nend\n",
-        "40 BadLine 4",
-    ),
-    (
-        "stickyplan 1\nversion 1\nserver a cap 5 price 0\nrow 1 a a a,\nend\n",
-        "40 BadLine 4",
-    ),
-    (
-        "stickyplan 1\nversion 1\nserver a cap 5 price 0\nrow 1 a a a,a\nend\n",
-        "42 NotCanonical",
-    ),
-    (
-        "stickyplan 1\nversion 1\nserver a cap 5 price 0\nserver b cap 5 price 0\nrow 1 a a b,a\nend\n",
-        "42 NotCanonical",
-    ),
-    (
-        "stickyplan 1\nversion 1\nserver a cap 5 price 0\nrow 16777217 a a a\nend\n",
-        "41 TooLarge",
-    ),
-    (
-        "stickyplan 1\nversion 1\nserver a cap 5 price 0\nrow 16777217 a a a,a\nend\n",
-        "41 TooLarge",
-    ),
-    (
-        "stickyplan 1\nversion 1\nserver a cap 5 price 0\nrow 16777216 a - a\nrow 1 a a a\nend\n",
-        "41 TooLarge",
-    ),
-    (
-        "stickyplan 1\nversion 1\nserver a cap 5 price 0\nrow 16777216 a a a\nrow 1 a - a\nend\n",
-        "41 TooLarge",
-    ),
-    (
-        "stickyplan 1\nversion 1\nserver a cap 5 price 0\nrow 1 a a a\nrow 1 a a a\nend\n",
-        "42 NotCanonical",
-    ),
-    (
-        "stickyplan 1\nversion 1\nserver a off\nserver b cap 1 price 1\nserver c cap 1 price 0\n\
-            row 01 a b b\nrow 1 b c b,c\nend\n",
-        "40 BadLine 6",
-    ),
-    (
-        "stickyplan 1\nversion 1\nserver a off\nserver b cap 1 price 1\nserver c cap 1 price 0\n\
-            row 1 b c b,c\nrow 1 a b b\nend\n",
-        "42 NotCanonical",
-    ),
-    // Costs.
-    (
-        "stickyplan 1\nversion 1\nserver a cap 5 price 0\nrow 1 a a a 1\nend\n",
-        "40 BadLine 4",
-    ),
-    (
-        "stickyplan 2\nversion 1\nserver a cap 5 price 0\nrow 1 a a a\nend\n",
-        "40 BadLine 4",
-    ),
-    (
-        "stickyplan 2\nversion 1\nserver a cap 5 price 0\nrow 1 a a a 0\nend\n",
-        "40 BadLine 4",
-    ),
-    (
-        "stickyplan 2\nversion 1\nserver a cap 5 price 0\nrow 1 a a a 1001\nend\n",
-        "41 TooLarge",
-    ),
-    // Version 2 without a row that needs it.
-    (
-        "stickyplan 2\nversion 0\nserver a cap 2 price 0\nend\n",
-        "42 NotCanonical",
-    ),
-    (
-        "stickyplan 2\nversion 1\nserver a cap 5 price 0\nrow 1 a a a 1\nend\n",
-        "42 NotCanonical",
-    ),
-    ("stickyplan 2\nversion 1\nend\nx\n", "42 NotCanonical"),
-    (
-        "stickyplan 2\nversion 1\nserver a cap 5 price 0\nrow 1 a a a 2\nrow 1 a a a 1\nend\n",
-        "42 NotCanonical",
-    ),
-    // A few more of each kind.
-    (
-        "stickyplan 1\nversion 1\nserver a off\nserver b cap 1 price 1\nserver c cap 1 price 0\n\
-            row 1 a b b\nrow 1 b c b,c\n",
-        "43 Truncated",
-    ),
-    ("stickyplan 1\nversion 0\nend", "43 Truncated"),
-    ("stickyplan 3\nversion 0\nend\n", "40 BadLine 1"),
-    ("stickyplan 01\nversion 0\nend\n", "40 BadLine 1"),
-    (
-        "stickyplan 1\nversion 1\nserver a cap 1 price 1099511627776\nend\n",
-        "41 TooLarge",
-    ),
-    (
-        "stickyplan 1\nversion 1\nserver a cap 1 price 0\nserver b cap 1 price 0\n\
-            row 16777216 a a a\nrow 1 b b b\nend\n",
-        "41 TooLarge",
-    ),
-    (
-        "stickyplan 1\nversion 1\nserver a cap 1 price 0\nrow 0 a a a\nend\n",
-        "40 BadLine 4",
-    ),
-    ("stickyplan 1\r\nversion 1\nend\n", "40 BadLine 1"),
-    ("stickyplan 1\nversion 0\nend\nmore\n", "40 BadLine 4"),
-    ("stickyplan 1\nversion 0\nend\nx", "40 BadLine 4"),
-    (
-        "stickyplan 1\nversion 1\nserver a cap 1 price 0\nserver b cap 1 price 0\nrow 1 a a b,a\nend\n",
-        "42 NotCanonical",
-    ),
-    (
-        "stickyplan 2\nversion 1\nserver a cap 1 price 0\nrow 1 a a a 1001\nend\n",
-        "41 TooLarge",
-    ),
-    // The text of a sheet.
-    ("stickysheet 1\nversion 7\nend\n", "40 BadLine 1"),
-    (
-        "stickysheet 1\nversion 0\nserver a cap 2\nend\n",
-        "40 BadLine 1",
-    ),
-    (
-        "stickysheet 1\nversion 1\nserver a off\nend\n",
-        "40 BadLine 1",
-    ),
-];
-
-/// Texts of many servers that are no plans.
-pub const NO_PLANS_OF_MANY_SERVERS: [(u32, &str, &str, &str); 5] = [
-    (
-        65,
-        "cap 1 price 0",
-        "row 1 - s65 s65\nrow 1 - s64 s64\nend\n",
-        "42 NotCanonical",
-    ),
-    (129, "cap 1 price 0", "end\n", "41 TooLarge"),
-    (
-        128,
-        "off",
-        "server s129 cap 1 price 0\nrow 1 - s129 s129\nend\n",
-        "41 TooLarge",
-    ),
-    (
-        128,
-        "cap 1 price 0",
-        "server s! off\nend\n",
-        "40 BadLine 131",
-    ),
-    (128, "off", "server - off\nend\n", "40 BadLine 131"),
-];
-
 /// A plan's text of servers `s1` to `s<count>`, each with this usage, and these lines behind them.
-pub fn plan_of_servers(
+pub(crate) fn plan_of_servers(
     alloc: Global,
     count: u32,
     usage: &str,
@@ -479,18 +243,5 @@ pub fn plan_of_servers(
         text.push_str(&line)?;
     }
     text.push_str(lines)?;
-    Ok(text)
-}
-
-/// A plan's text but for its row, whose count has a thousand digits.
-pub fn plan_of_a_thousand_digits(alloc: Global) -> Result<String, AllocError> {
-    let mut text = String::from_str(
-        alloc,
-        "stickyplan 1\nversion 1\nserver a cap 1 price 0\nrow ",
-    )?;
-    for _ in 0..1000 {
-        text.push('9')?;
-    }
-    text.push_str(" a a a\nend\n")?;
     Ok(text)
 }

@@ -78,62 +78,12 @@ fn expect_sheet(rt: &impl Abort, alloc: Global, text: &str) -> Result<(), Fail> 
 
 #[test]
 fn sheets_go_round(rt: HostRuntime) -> Result<(), Fail> {
-    for (text, _line) in sheets::SHEETS {
+    for text in sheets::SHEETS {
         expect_sheet(&rt, rt.alloc(), text)?;
     }
-    for (count, lines, _line) in sheets::OF_MANY_SERVERS {
+    for (count, lines) in sheets::OF_MANY_SERVERS {
         let text = sheets::sheet_of_servers(rt.alloc(), count, lines)?;
         expect_sheet(&rt, rt.alloc(), &text)?;
-    }
-    Ok(())
-}
-
-/// The first fault is this one.
-fn expect_fault(rt: &impl Abort, alloc: Global, text: &[u8], fault: &str) -> Result<(), Fail> {
-    match read_sheet(alloc, text) {
-        Ok(_) => Err(Fail::new("the text is a sheet's")),
-        Err(ReadError::Memory) => Err(Fail::new("out of memory")),
-        Err(ReadError::Fault(found)) => {
-            assert_eq!(rt; found.text(alloc)?.as_str(), fault, "{text:?}");
-            Ok(())
-        }
-    }
-}
-
-/// Each case is some lines behind those in front, and the first fault.
-fn expect_faults(
-    rt: &impl Abort,
-    alloc: Global,
-    front: &str,
-    cases: &[(&str, &str)],
-) -> Result<(), Fail> {
-    for (lines, fault) in cases {
-        let text = sheets::sheet_of_lines(alloc, front, lines)?;
-        expect_fault(rt, alloc, text.as_bytes(), fault)?;
-    }
-    Ok(())
-}
-
-#[test]
-fn texts_that_are_no_sheets_have_their_first_faults(rt: HostRuntime) -> Result<(), Fail> {
-    for (text, fault) in sheets::NO_SHEETS {
-        expect_fault(&rt, rt.alloc(), text.as_bytes(), fault)?;
-    }
-    expect_faults(&rt, rt.alloc(), sheets::ONE_SERVER, &sheets::BAD_SERVERS)?;
-    expect_faults(&rt, rt.alloc(), sheets::THREE_SERVERS, &sheets::BAD_GROUPS)?;
-    expect_faults(&rt, rt.alloc(), sheets::WITH_COSTS, &sheets::BAD_COSTS)?;
-    for (count, lines, fault) in sheets::NO_SHEETS_OF_MANY_SERVERS {
-        let text = sheets::sheet_of_servers(rt.alloc(), count, lines)?;
-        expect_fault(&rt, rt.alloc(), text.as_bytes(), fault)?;
-    }
-    let text = sheets::sheet_of_a_thousand_digits(rt.alloc())?;
-    expect_fault(&rt, rt.alloc(), text.as_bytes(), "41 TooLarge")?;
-    // Each shorter beginning of a sheet's text.
-    let text = b"stickysheet 2\nversion 7\nserver a off\nserver b cap 1\nserver c cap 4\n\
-        group 1 a b 3\ngroup 2 b b,c 1\nend\n"
-        .as_slice();
-    for length in 0..text.len() {
-        expect_fault(&rt, rt.alloc(), &text[..length], "43 Truncated")?;
     }
     Ok(())
 }

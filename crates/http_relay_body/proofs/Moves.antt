@@ -6,7 +6,7 @@ use Rattle.http_relay_wire.proofs.KnownBytes.{append_twice, prepend_twice, prepe
 use Rattle.http_relay_wire.specs.declared.fault.WireFault.{WireFault}
 use Rattle.http_relay_body.specs.declared.fault.BodyFault.{BodyFault}
 use Rattle.http_relay_body.specs.declared.fault.BodyFault.TheVariants.{Truncated, Client, Server, BadChunk}
-use Rattle.http_relay_body.specs.Moves.{Taken, Begins, NeverBegins, Answers, Found, Moved, IsByte, IsLong, IsSome}
+use Rattle.http_relay_body.specs.Moves.{Taken, Begins, NeverBegins, Answers, Moved, IsLong, IsSome}
 
 -- nothing is taken
 pub take_nothing : (hand : List ℕ) (known : Option (List ℕ)) → Taken hand hand known known []
@@ -55,7 +55,7 @@ pub appends_both : (before mid after : Option (List ℕ)) (s t : List ℕ) → m
 appends_both before mid after s t x y = y ∙ ap (λ known. append_known known t) x ∙ append_twice before s t
 
 -- a fault in a later part speaks of the whole
-answers_later : {A B : Type 0} (P : A → List ℕ → Type 0) (Q : B → List ℕ → Type 0) (s t left : List ℕ) (reading : Reading) (fault : BodyFault)
+pub answers_later : {A B : Type 0} (P : A → List ℕ → Type 0) (Q : B → List ℕ → Type 0) (s t left : List ℕ) (reading : Reading) (fault : BodyFault)
     → ((rest : List ℕ) → Begins P (s ++ rest) → Begins Q rest) → Answers Q t left reading (Err fault) → Answers P (s ++ t) left reading (Err fault)
 answers_later P Q s t left reading Truncated skip x = (x.0, λ begins. x.1 (skip t begins))
 answers_later P Q s t left reading BadChunk skip x = λ more begins. x more (skip (t ++ more) (subst (Begins P) (append_assoc s t more) begins))
@@ -118,7 +118,7 @@ part_unsent P hand left old new before after text fault taken beginning =
     record { text = text; taken = taken; answers = tt; sent = tt; beginning = beginning }
 
 -- in nothing there is none of some bytes
-nothing_some : (most : ℕ) → ¬ Begins (IsSome most) []
+pub nothing_some : (most : ℕ) → ¬ Begins (IsSome most) []
 nothing_some most (count, front, rest, (size, some, within), parted) =
     let sizes = ap length parted ∙ length-append front rest in
     absurd (omega (arith, size, some, sizes))
@@ -139,26 +139,3 @@ part_later P Q hand mid left old between new before mid_written after value late
     part_sent P hand left old new before after value (s ++ later.text)
     (take_twice hand mid left old.unread between.unread new.unread s later.text taken later.taken)
     (joins later.text later.answers) (appends_both before mid_written after s later.text sent later.sent)
-
--- without the next byte there is no part
-skip_by_byte : {A : Type 0} (P : A → List ℕ → Type 0) (s : List ℕ) → ¬ Begins P s → (rest : List ℕ) → Begins P (s ++ rest) → Begins IsByte rest
-skip_by_byte P s none [] begins = absurd (none (subst (Begins P) (append-nil s) begins))
-skip_by_byte P s none (byte ∷ rest) begins = (byte, byte ∷ [], rest, refl, refl)
-
--- the next byte of a part didn't come
-pub byte_missing : {A : Type 0} (P : A → List ℕ → Type 0) (hand mid left : List ℕ) (old between new : Reading) (written : Option (List ℕ)) (fault : BodyFault) (s : List ℕ)
-    → Taken hand mid old.unread between.unread s → ¬ Begins P s → Found IsByte mid left between new (Err fault) → Moved P hand left old new written written (Err fault)
-byte_missing P hand mid left old between new written fault s taken none found = record {
-  text = s ++ found.text;
-  taken = take_twice hand mid left old.unread between.unread new.unread s found.text taken found.taken;
-  answers = answers_later P IsByte s found.text left new fault (skip_by_byte P s none) found.answers;
-  sent = tt;
-  beginning = begins_with_nothing written (s ++ found.text);
-}
-
--- a byte more was taken
-pub byte_taken : (hand mid left : List ℕ) (old between new : Reading) (s : List ℕ) (byte : ℕ)
-    → Taken hand mid old.unread between.unread s → Found IsByte mid left between new (Ok byte) → Taken hand left old.unread new.unread (s ++ byte ∷ [])
-byte_taken hand mid left old between new s byte taken found =
-    subst (λ text. Taken hand left old.unread new.unread (s ++ text)) found.answers
-    (take_twice hand mid left old.unread between.unread new.unread s found.text taken found.taken)

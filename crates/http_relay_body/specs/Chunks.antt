@@ -3,8 +3,8 @@ use Rattle.std.specs.Prelude.{◌≡◌, ℕ, ◌≤◌, ◌<◌, List, ◌++◌
 use Rattle.std.specs.List.{flat_map, AllByRecursion}
 use Rattle.httparse.specs.Ascii.{crlf_bytes}
 use Rattle.httparse.specs.Grammar.{ChunkLine, IsChunkLine, print_chunk_line, chunk_size, Field, IsField, LineEnd, print_section}
-use Rattle.http_relay_body.specs.declared.chunks.trailer.TheConstants.{MOST_FIELDS, MOST_TRAILER_BYTES}
-use Rattle.http_relay_body.specs.declared.chunks.size_line.TheConstants.{MOST_LINE_BYTES}
+use Rattle.http_relay_body.specs.declared.chunks.part.trailer.TheConstants.{MOST_FIELDS, MOST_TRAILER_BYTES}
+use Rattle.http_relay_body.specs.declared.chunks.part.size_line.TheConstants.{MOST_LINE_BYTES}
 
 -- a size line within the limit
 pub record IsSizeLine (line : ChunkLine) : Type 0 where

@@ -36,12 +36,6 @@ Answers IsPart text left reading (Err BadChunk) = NeverBegins IsPart text
 Answers IsPart text left reading (Err (Client fault)) = (left ≡ []) × ¬ Begins IsPart text
 Answers IsPart text left reading (Err (Server fault)) = Unit {0}
 
--- a part was taken, or the answer says why not
-pub record Found {A : Type 0} (IsPart : A → List ℕ → Type 0) (hand left : List ℕ) (old new : Reading) (answer : Result A BodyFault) : Type 0 where
-  pub text : List ℕ
-  pub taken : Taken hand left old.unread new.unread text
-  pub answers : Answers IsPart text left new answer
-
 -- a part was taken and written, or a beginning of what was taken
 pub record Moved {A : Type 0} (IsPart : A → List ℕ → Type 0) (hand left : List ℕ) (old new : Reading)
     (before after : Option (List ℕ)) (answer : Result A BodyFault) : Type 0 where
@@ -74,10 +68,6 @@ IsServerFault (Err Truncated) = ⊥
 IsServerFault (Err BadChunk) = ⊥
 IsServerFault (Err (Client fault)) = ⊥
 IsServerFault (Err (Server fault)) = Unit {0}
-
--- one byte
-abbrev pub IsByte : ℕ → List ℕ → Type 0
-IsByte byte text = text ≡ byte ∷ []
 
 -- so many bytes
 abbrev pub IsLong : ℕ → {A : Type 0} → A → List ℕ → Type 0

@@ -1,7 +1,9 @@
 -- The parts that a chunked body is passed on in. No public clause cites this module.
-use Rattle.std.specs.Prelude.{◌≡◌, ℕ, Bool, true, false, List, ◌++◌, length}
+use Rattle.std.specs.Prelude.{◌≡◌, ◌+◌, ℕ, zero, suc, Bool, true, false, List, ◌++◌, length}
 use Rattle.httparse.specs.Ascii.{crlf_bytes}
 use Rattle.httparse.specs.Grammar.{ChunkLine, print_chunk_line, chunk_size, Field, LineEnd, print_section}
+use Rattle.http_relay_body.specs.declared.chunks.part.Part.{Part}
+use Rattle.http_relay_body.specs.declared.chunks.part.Part.TheVariants.{SizeLine, DataEnd, Trailer}
 use Rattle.http_relay_body.specs.Chunks.{IsSizeLine, IsTrailer, Chunk, IsChunk, print_chunk}
 
 -- a size line that tells this size
@@ -26,3 +28,27 @@ IsChunkText false text = (chunk : Chunk) × IsChunk chunk × (text ≡ print_chu
 IsChunkText true text =
     (line : ChunkLine) × (fields : List Field) × (end : LineEnd)
     × IsSizeLine line × (chunk_size line ≡ 0) × IsTrailer fields end × (text ≡ print_chunk_line line ++ print_section fields end)
+
+-- a part other than data; the value is the size that a size line tells, and else any
+abbrev pub IsPartText : Part → ℕ → List ℕ → Type 0
+IsPartText SizeLine size text = IsSizeText size text
+IsPartText DataEnd value text = IsLineEnd value text
+IsPartText Trailer value text = IsTrailerText value text
+
+-- The least bytes that can stand from the beginning of a part to the body's end. The shortest of the rests, `0` CR LF and a trailer
+-- of one line feed, has 4.
+abbrev pub least_from : Part → ℕ
+least_from SizeLine = 4
+least_from DataEnd = 6
+least_from Trailer = 1
+
+-- the least behind a size line that tells this size
+abbrev pub least_behind_size : ℕ → ℕ
+least_behind_size zero = 1
+least_behind_size (suc size) = suc size + 6
+
+-- the least behind a part
+abbrev pub least_behind : Part → ℕ → ℕ
+least_behind SizeLine size = least_behind_size size
+least_behind DataEnd value = 4
+least_behind Trailer value = 0

@@ -1,10 +1,8 @@
-ghost use Rattle.std.specs.Prelude.{◌≡◌, ◌+◌, ◌<◌, ◌≤◌, ℕ, List, [], ◌∷◌, length, IfOk, OnErr};
+ghost use Rattle.std.specs.Prelude.{◌≡◌, ◌+◌, ◌<◌, ◌≤◌, nat_eq, ℕ, List, [], length, IfOk, OnErr};
 ghost use Rattle.http_relay_wire.specs.Wires.{moved};
 ghost use Rattle.http_relay_wire.specs.Faults.{after_read};
-ghost use Rattle.http_relay_wire.specs.declared.fault.FaultCounts.{FaultCounts};
-ghost use Rattle.http_relay_body.specs.Moves.{Taken, HasEnded, Found, IsByte, client_faults, server_faults};
+ghost use Rattle.http_relay_body.specs.Moves.{Taken, HasEnded};
 
-use crate::fault::BodyFault;
 use http_relay_wire::{Wire, WireFault};
 use std::marker::Model;
 
@@ -26,6 +24,13 @@ impl<'a> AtHand<'a> {
         ensures { result ≡ bytes.now }
     {
         AtHand { bytes }
+    }
+
+    /// Whether none is at hand.
+    pub(crate) fn is_empty(&self) -> bool
+        ensures { result ≡ nat_eq (length self.now) 0 }
+    {
+        self.bytes.is_empty()
     }
 
     /// Takes the client's next bytes into the front of `room`: those at hand, and when there is none, those that one read gives.
@@ -51,28 +56,5 @@ impl<'a> AtHand<'a> {
         room[..count].copy_from_slice(&self.bytes[..count]);
         self.bytes = &self.bytes[count..];
         Ok(count)
-    }
-
-    /// Takes the client's next byte into this place for one, and answers it.
-    pub(crate) fn take_byte<W: Wire>(
-        &mut self,
-        client: &mut W,
-        place: &mut [u8],
-    ) -> Result<u8, BodyFault>
-        requires { length place.old ≡ 1 }
-        ensures found { Found IsByte self.old self.new (W.reading client.old) (W.reading client.new) result }
-        ensures place { IfOk result (λ byte. place.new ≡ byte ∷ []) }
-        ensures fewer { IfOk result (λ _. length self.new + (W.reading client.new).left < length self.old + (W.reading client.old).left) }
-        ensures faults { W.faults client.new ≡ client_faults result (W.faults client.old) }
-        ensures written { W.written client.new ≡ W.written client.old }
-
-        // Its faults are the client's.
-        ensures server { (counts : FaultCounts) → server_faults result counts ≡ counts }
-    {
-        match self.take(client, place) {
-            Ok(0) => Err(BodyFault::Truncated),
-            Ok(_) => Ok(place[0]),
-            Err(fault) => Err(BodyFault::Client(fault)),
-        }
     }
 }

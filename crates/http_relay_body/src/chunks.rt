@@ -1,31 +1,51 @@
-ghost use Rattle.std.specs.Prelude.{◌≡◌, ◌+◌, ◌<◌, ◌≤◌, length, IfOk, false};
+ghost use Rattle.std.specs.Prelude.{◌≡◌, ◌+◌, ◌<◌, ◌≤◌, [], length, IfOk, OnOk, cond};
 ghost use Rattle.http_relay_body.specs.Moves.{Moved, client_faults, server_faults};
 ghost use Rattle.http_relay_body.specs.Chunks.{IsChunked};
 ghost use Rattle.http_relay_body.specs.Parts.{IsChunkText};
+ghost use Rattle.http_relay_body.specs.Rooms.{stand, Passed};
 
-mod behind;
 mod data;
-mod size_line;
-mod trailer;
+mod part;
+mod room;
 
 use crate::at_hand::AtHand;
 use crate::chunks::data::pass_data;
-use crate::chunks::size_line::pass_size_line;
-use crate::chunks::trailer::{MOST_TRAILER_BYTES, pass_trailer};
+use crate::chunks::part::{Part, pass_part};
+use crate::chunks::room::Room;
 use crate::fault::BodyFault;
 use http_relay_wire::Wire;
 
-/// Passes on a chunked body through this room of at least 8192 bytes. A size line costs a walk over what has come of it at each
-/// of its bytes, a trailer one at each of its lines.
+/// Passes on a chunked body. In the usual case a chunk costs one read and one write: as much is read at once as must still come, so
+/// that no byte behind the body is read, and what was judged goes out together before the next read. A size line costs a walk over
+/// what has come of it at each read, a trailer one at each of its lines.
 pub(crate) fn pass_chunks<C: Wire, S: Wire>(
     at_hand: &mut AtHand<'_>,
     client: &mut C,
     server: &mut S,
-    room: &mut [u8],
 ) -> Result<(), BodyFault>
-    requires { MOST_TRAILER_BYTES ≤ length room.old }
     ensures moved { Moved (λ _ text. IsChunked text) at_hand.old at_hand.new (C.reading client.old) (C.reading client.new)
         (S.written server.old) (S.written server.new) result }
+    ensures client { C.faults client.new ≡ client_faults result (C.faults client.old) }
+    ensures server { S.faults server.new ≡ server_faults result (S.faults server.old) }
+    ensures client_written { C.written client.new ≡ C.written client.old }
+    ensures server_reading { S.reading server.new ≡ S.reading server.old }
+{
+    let mut room = Room::new();
+    judge_chunks(at_hand, client, server, &mut room)?;
+    room.send_judged(server)
+}
+
+/// Judges all chunks and the trailer. At the end nothing stands ahead, and what was judged last has still to go out.
+fn judge_chunks<C: Wire, S: Wire>(
+    at_hand: &mut AtHand<'_>,
+    client: &mut C,
+    server: &mut S,
+    room: &mut Room,
+) -> Result<(), BodyFault>
+    requires { length room.old.ahead ≤ 4 }
+    ensures passed { Passed (λ _ text. IsChunked text) (stand at_hand.old (C.reading client.old) (S.written server.old) room.old)
+        (stand at_hand.new (C.reading client.new) (S.written server.new) room.new) result }
+    ensures ahead { OnOk result (room.new.ahead ≡ []) }
     ensures client { C.faults client.new ≡ client_faults result (C.faults client.old) }
     ensures server { S.faults server.new ≡ server_faults result (S.faults server.old) }
     ensures client_written { C.written client.new ≡ C.written client.old }
@@ -38,26 +58,25 @@ pub(crate) fn pass_chunks<C: Wire, S: Wire>(
     }
 }
 
-/// Passes on the next chunk, and behind the one of size 0 the trailer; answers whether it was that one.
+/// Judges the next chunk, and behind the one of size 0 the trailer; answers whether it was that one.
 fn pass_chunk<C: Wire, S: Wire>(
     at_hand: &mut AtHand<'_>,
     client: &mut C,
     server: &mut S,
-    room: &mut [u8],
+    room: &mut Room,
 ) -> Result<bool, BodyFault>
-    requires { MOST_TRAILER_BYTES ≤ length room.old }
-    ensures moved { Moved IsChunkText at_hand.old at_hand.new (C.reading client.old) (C.reading client.new)
-        (S.written server.old) (S.written server.new) result }
-    ensures fewer { IfOk result (λ is_last. is_last ≡ false → length at_hand.new + (C.reading client.new).left
-        < length at_hand.old + (C.reading client.old).left) }
+    requires { length room.old.ahead ≤ 4 }
+    ensures passed { Passed IsChunkText (stand at_hand.old (C.reading client.old) (S.written server.old) room.old)
+        (stand at_hand.new (C.reading client.new) (S.written server.new) room.new) result }
+    ensures ahead { IfOk result (λ is_last. length room.new.ahead ≤ cond is_last 0 4) }
     ensures client { C.faults client.new ≡ client_faults result (C.faults client.old) }
     ensures server { S.faults server.new ≡ server_faults result (S.faults server.old) }
     ensures client_written { C.written client.new ≡ C.written client.old }
     ensures server_reading { S.reading server.new ≡ S.reading server.old }
 {
-    let size = pass_size_line(at_hand, client, server, room)?;
+    let size = pass_part(Part::SizeLine, at_hand, client, server, room)?;
     if size == 0 {
-        pass_trailer(at_hand, client, server, room)?;
+        pass_part(Part::Trailer, at_hand, client, server, room)?;
         return Ok(true);
     }
     pass_data(at_hand, client, server, room, size)?;

@@ -7,8 +7,9 @@
 //! takes one buffer of fixed size and no memory.
 //!
 //! Start at `send_body`, whose words are in `specs/Bodies.antt`. It rests on `length`, which passes on so many bytes by the words
-//! of `specs/Moves.antt`, and on `chunks`, whose bodies are in `specs/Chunks.antt`. `copy_back` is in `response`, with its words in
-//! `specs/Copies.antt`.
+//! of `specs/Moves.antt`, and on `chunks`, whose bodies are in `specs/Chunks.antt`: there `part` judges the parts of a body, each of
+//! which says how many bytes must still come, in a `room` from which goes out what was judged. `copy_back` is in `response`, with its
+//! words in `specs/Copies.antt`.
 #![tactic(auto)]
 
 mod at_hand;

@@ -1,4 +1,4 @@
-ghost use Rattle.std.specs.Prelude.{◌≡◌, ℕ, List, ◌++◌, length, IfSome};
+ghost use Rattle.std.specs.Prelude.{◌≡◌, ℕ, List, ◌++◌, IfSome};
 ghost use Rattle.http_relay_body.specs.Moves.{Moved, client_faults, server_faults};
 ghost use Rattle.http_relay_body.specs.Bodies.{IsBody, JudgesInput};
 
@@ -9,12 +9,12 @@ use crate::length::pass;
 use http_relay_forward::BodyKind;
 use http_relay_wire::Wire;
 
-/// The bytes of the room that a body goes through.
+/// The bytes of the room that a body of so many bytes goes through.
 const ROOM: usize = 16384;
 
 /// Sends a request's body of this kind from the client to the server, byte for byte. `behind` is what was read of the client
 /// behind the head, and nothing is read past the body's end. It takes no memory: the bytes go through one buffer, and what a
-/// read gave is written before the next.
+/// read gave is written before the next, but for a part of a chunked body that isn't whole yet.
 pub fn send_body<C: Wire, S: Wire>(
     kind: BodyKind,
     behind: &[u8],
@@ -32,18 +32,16 @@ pub fn send_body<C: Wire, S: Wire>(
     ensures input { IfSome (C.reading client.old).unread (λ input. JudgesInput kind (behind.now ++ input) result) }
 {
     let mut at_hand = AtHand::new(behind);
-    send_through(kind, &mut at_hand, client, server, &mut [0; ROOM])
+    send_through(kind, &mut at_hand, client, server)
 }
 
-/// Sends the body through this room.
+/// Sends the body of this kind.
 fn send_through<C: Wire, S: Wire>(
     kind: BodyKind,
     at_hand: &mut AtHand<'_>,
     client: &mut C,
     server: &mut S,
-    room: &mut [u8],
 ) -> Result<(), BodyFault>
-    requires { length room.old ≡ ROOM }
     ensures moved { Moved (λ _ text. IsBody kind text) at_hand.old at_hand.new (C.reading client.old) (C.reading client.new)
         (S.written server.old) (S.written server.new) result }
     ensures client { C.faults client.new ≡ client_faults result (C.faults client.old) }
@@ -53,7 +51,7 @@ fn send_through<C: Wire, S: Wire>(
 {
     match kind {
         BodyKind::Empty => Ok(()),
-        BodyKind::Length(count) => pass(at_hand, client, server, room, count),
-        BodyKind::Chunked => pass_chunks(at_hand, client, server, room),
+        BodyKind::Length(count) => pass(at_hand, client, server, &mut [0; ROOM], count),
+        BodyKind::Chunked => pass_chunks(at_hand, client, server),
     }
 }

@@ -1,14 +1,11 @@
-//! Listeners for clients: who accepts their connections and hands them on to workers.
+//! Listeners: where clients and operators connect, and how an accept that fails is followed by the next.
 //!
-//! Promised: an `Arrival` has the stream that was accepted, the client's address and the listener's frontend. `accept_until_stopped`
-//! hands each connection on with its limits set, waits for no worker, and ends where a flag says so: that is tested, since no clause
-//! says what the system accepts. Start at `accept_until_stopped`.
+//! Promised: nothing by a clause, since no clause says what the system does. Tested: `listen` has the longest backlog that the system
+//! allows, what it accepts sends at once, and an accept ends where nobody comes, so that a stop is seen. Start at `listen`.
 #![tactic(auto)]
 
-mod accepting;
-mod arrival;
 mod listening;
+mod resting;
 
-pub use accepting::{accept_until_stopped, rest_after};
-pub use arrival::{Arrival, MAX_WAITING, waiting_line};
 pub use listening::{listen, with_tick};
+pub use resting::{passes, rest_after};

@@ -1,37 +1,23 @@
-use crossbeam_channel::Receiver;
-use http_relay_listen::{Arrival, accept_until_stopped, listen, waiting_line};
+use crate::site::{LONG, any_port, connect_all, patience, rules, take_all};
+use http_relay_listen::listen;
+use http_relay_lobby::{Arrival, Rules, gather_until_stopped, waiting_line};
 use http_relay_socket::StreamLimits;
-use std::net::{Ipv4Addr, SocketAddr, SocketAddrV4, TcpStream};
-use std::sync::Wait;
+use std::io::Write;
+use std::net::{Ipv4Addr, TcpStream};
 use std::sync::atomic::{AtomicBool, Ordering};
 use std::test::Fail;
 use std::thread::join;
-use std::time::{Clock, Duration, Instant};
+use std::time::{Duration, Instant};
 
-// How many milliseconds a test waits for what it expects.
-const PATIENCE: u64 = 5000;
-
-const LONG: StreamLimits = StreamLimits {
-    read: Some(60_000),
-    write: Some(60_000),
-};
+const REQUEST: &[u8] = b"GET / HTTP/1.1\r\nHost: a\r\n\r\n";
 
 // Limits on reads and on writes in milliseconds.
 const LIMITS: &[(Option<u32>, Option<u32>)] = &[
     (None, None),
     (Some(0), Some(5000)),
     (Some(60_000), None),
-    (Some(1), Some(60_000)),
+    (Some(5000), Some(60_000)),
 ];
-
-// A port of this host that the system picks.
-fn any_port() -> SocketAddrV4 {
-    SocketAddrV4::new(Ipv4Addr::LOCALHOST, 0)
-}
-
-fn patience() -> Duration {
-    Duration::from_millis(PATIENCE)
-}
 
 // Whether the limit that a stream has is the one that was set, which the system may round up a little.
 fn is_limit(given: Option<u32>, has: Option<Duration>) -> bool {
@@ -40,36 +26,50 @@ fn is_limit(given: Option<u32>, has: Option<Duration>) -> bool {
     given <= has && has <= given.saturating_add(20)
 }
 
-// Each connection has its limits, whatever those are, sends at once what it is given, and is told with its client and frontend.
+// Whether the arrival is a request of this host at the fourth frontend, whose stream sends at once what it is given.
+fn is_request(arrival: &Arrival<TcpStream>) -> Result<bool, Fail> {
+    Ok(
+        arrival.stream.nodelay()?
+            && (arrival.source, arrival.frontend) == (Ipv4Addr::LOCALHOST, 3)
+            && arrival.head.as_slice() == REQUEST
+            && arrival.failed.is_none(),
+    )
+}
+
+// A connection whose head came with it is handed on with its limits, whatever those are, its client and its frontend.
 #[test]
 fn connections_have_their_limits(rt: HostRuntime) -> Result<(), Fail> {
     for (read, write) in LIMITS {
         let listener = listen(&rt, any_port())?;
         let address = listener.local_addr()?;
         let (to, from) = waiting_line(rt.alloc())?;
-        let limits = StreamLimits {
-            read: *read,
-            write: *write,
+        let rules = Rules {
+            frontend: 3,
+            limits: StreamLimits {
+                read: *read,
+                write: *write,
+            },
+            most_guests: 8,
         };
         let stop = AtomicBool::new(false);
-        let (_, arrival) = join(
+        let mut client = TcpStream::connect(&rt, address)?;
+        client.write_all(REQUEST)?;
+        let (gathered, arrival) = join(
             &rt,
-            || accept_until_stopped(&rt, listener, 3, limits, &stop, to),
+            || gather_until_stopped(&rt, rt.alloc(), listener, rules, &stop, to),
             || {
-                let client = TcpStream::connect(&rt, address);
                 let arrival = from.recv_timeout(&rt, patience());
                 stop.store(true, Ordering::SeqCst);
-                drop(client);
                 arrival
             },
         );
+        gathered?;
         let arrival = arrival?;
         let stream = &arrival.stream;
         assert!(rt;
             is_limit(*read, stream.read_timeout()?)
                 && is_limit(*write, stream.write_timeout()?)
-                && stream.nodelay()?
-                && (arrival.source, arrival.frontend) == (Ipv4Addr::LOCALHOST, 3),
+                && is_request(&arrival)?,
             "{read:?}, {write:?}"
         );
     }
@@ -84,11 +84,12 @@ fn a_stop_ends_the_listener_and_the_line(rt: HostRuntime) -> Result<(), Fail> {
     let (to, from) = waiting_line(rt.alloc())?;
     let stop = AtomicBool::new(false);
     let begun = Instant::now(&rt)?;
-    join(
+    let (gathered, _) = join(
         &rt,
-        || accept_until_stopped(&rt, listener, 0, LONG, &stop, to),
+        || gather_until_stopped(&rt, rt.alloc(), listener, rules(LONG, 8), &stop, to),
         || stop.store(true, Ordering::SeqCst),
     );
+    gathered?;
     let taken = begun.elapsed(&rt)?;
     let line_ends = from.recv_timeout(&rt, patience()).is_err();
     let is_refused = TcpStream::connect(&rt, address).is_err();
@@ -99,46 +100,23 @@ fn a_stop_ends_the_listener_and_the_line(rt: HostRuntime) -> Result<(), Fail> {
     Ok(())
 }
 
-// Connects so often, and gives the streams.
-fn connect_all(
-    rt: &HostRuntime,
-    address: SocketAddr,
-    count: usize,
-) -> Result<Vec<TcpStream>, Fail> {
-    let mut all = Vec::new(rt.alloc());
-    for _ in 0..count {
-        all.push(TcpStream::connect_timeout(rt, &address, patience())?)?;
-    }
-    Ok(all)
-}
-
-// How many arrivals come, up to so many.
-fn take_all<R: Wait + Clock>(rt: &R, from: &Receiver<Arrival<TcpStream>>, most: usize) -> usize {
-    let mut count: usize = 0;
-    for _ in 0..most {
-        if from.recv_timeout(rt, patience()).is_ok() {
-            count = count.saturating_add(1);
-        }
-    }
-    count
-}
-
 // So many clients come before anything is accepted, and all of them are handed on though no worker takes one meanwhile.
 #[test]
 fn two_hundred_clients_are_handed_on(rt: HostRuntime) -> Result<(), Fail> {
     let listener = listen(&rt, any_port())?;
-    let clients = connect_all(&rt, listener.local_addr()?, 200)?;
+    let clients = connect_all(&rt, listener.local_addr()?, 200, REQUEST)?;
     let (to, from) = waiting_line(rt.alloc())?;
     let stop = AtomicBool::new(false);
-    let (_, taken) = join(
+    let (gathered, taken) = join(
         &rt,
-        || accept_until_stopped(&rt, listener, 0, LONG, &stop, to),
+        || gather_until_stopped(&rt, rt.alloc(), listener, rules(LONG, 8), &stop, to),
         || {
             let taken = take_all(&rt, &from, 200);
             stop.store(true, Ordering::SeqCst);
             taken
         },
     );
+    gathered?;
     assert!(rt; taken == 200 && clients.len() == 200, "{taken}");
     Ok(())
 }

@@ -1,26 +1,45 @@
-use http_relay_listen::{MAX_WAITING, accept_until_stopped, waiting_line};
-use http_relay_socket::StreamLimits;
+use crate::site::{NONE, any_port, rules, take_all};
+use crossbeam_channel::Receiver;
+use http_relay_listen::listen;
+use http_relay_lobby::{Arrival, MAX_WAITING, gather_until_stopped, waiting_line};
 use std::cell::Cell;
-use std::io;
-use std::io::{Error, ErrorKind};
-use std::net::{Ipv4Addr, OpenListener, OpenStream, SocketAddr, SocketAddrV4};
+use std::io::{Error, ErrorKind, Read};
+use std::net::{Ipv4Addr, OpenListener, OpenStream, SocketAddr, SocketAddrV4, TcpListener};
+use std::os::fd::{AsRawFd, RawFd};
 use std::sync::atomic::{AtomicBool, Ordering};
 use std::test::Fail;
-use std::time::Duration;
+use std::thread::join;
+use std::time::{Clock, Duration};
+use std::{io, thread};
 
-const NO_LIMITS: StreamLimits = StreamLimits {
-    read: None,
-    write: None,
-};
+const REQUEST: &[u8] = b"GET / HTTP/1.1\r\nHost: a\r\n\r\n";
 
-/// A connection of a `Script`.
+/// A connection of a `Script`, whose client has sent a request.
 #[derive(Debug, Drop)]
 struct Scripted {
     // Whether its limits can be set.
     is_limitable: bool,
 }
 
+impl Read for Scripted {
+    fn read(&mut self, buffer: &mut [u8]) -> io::Result<usize> {
+        let count = REQUEST.len().min(buffer.len());
+        buffer[..count].copy_from_slice(&REQUEST[..count]);
+        Ok(count)
+    }
+}
+
+impl AsRawFd for Scripted {
+    fn as_raw_fd(&self) -> RawFd {
+        -1
+    }
+}
+
 impl OpenStream for Scripted {
+    fn set_nonblocking(&self, _nonblocking: bool) -> io::Result<()> {
+        Ok(())
+    }
+
     fn set_read_timeout(&self, _limit: Option<Duration>) -> io::Result<()> {
         match self.is_limitable {
             true => Ok(()),
@@ -46,14 +65,26 @@ enum Accept {
 
 /// A listener that gives this in turn, and sets the flag with the last.
 #[derive(Drop)]
-struct Script<'a> {
+struct ScriptedListener<'a> {
+    // What the system watches in its place.
+    inner: TcpListener,
     accepts: &'a [Accept],
     next: Cell<usize>,
     stop: &'a AtomicBool,
 }
 
-impl<'a> OpenListener for Script<'a> {
+impl<'a> AsRawFd for ScriptedListener<'a> {
+    fn as_raw_fd(&self) -> RawFd {
+        self.inner.as_raw_fd()
+    }
+}
+
+impl<'a> OpenListener for ScriptedListener<'a> {
     type Stream = Scripted;
+
+    fn set_nonblocking(&self, _nonblocking: bool) -> io::Result<()> {
+        Ok(())
+    }
 
     fn accept(&self) -> io::Result<(Scripted, SocketAddr)> {
         let place = self.next.get();
@@ -62,15 +93,18 @@ impl<'a> OpenListener for Script<'a> {
             self.stop.store(true, Ordering::SeqCst);
             return Err(ErrorKind::WouldBlock.into());
         };
-        let is_limitable = match accept {
-            Accept::Connection => true,
-            Accept::Unlimitable => false,
-            Accept::Fails(kind) => return Err((*kind).into()),
-            Accept::FailsAs(number) => return Err(Error::from_raw_os_error(*number)),
-        };
-        let address = SocketAddr::V4(SocketAddrV4::new(Ipv4Addr::new(10, 0, 0, 1), 80));
-        Ok((Scripted { is_limitable }, address))
+        match accept {
+            Accept::Connection => Ok(connection(true)),
+            Accept::Unlimitable => Ok(connection(false)),
+            Accept::Fails(kind) => Err((*kind).into()),
+            Accept::FailsAs(number) => Err(Error::from_raw_os_error(*number)),
+        }
     }
+}
+
+fn connection(is_limitable: bool) -> (Scripted, SocketAddr) {
+    let address = SocketAddr::V4(SocketAddrV4::new(Ipv4Addr::new(10, 0, 0, 1), 80));
+    (Scripted { is_limitable }, address)
 }
 
 // `EMFILE`: too many open files.
@@ -80,10 +114,6 @@ const TOO_MANY_FILES: i32 = 24;
 const ACCEPTS: &[(&[Accept], usize)] = &[
     (&[], 0),
     (&[Accept::Connection, Accept::Connection], 2),
-    (
-        &[Accept::Fails(ErrorKind::WouldBlock), Accept::Connection],
-        1,
-    ),
     (
         &[
             Accept::Fails(ErrorKind::ConnectionAborted),
@@ -109,49 +139,76 @@ fn errors_end_nothing(rt: HostRuntime) -> Result<(), Fail> {
     for (accepts, handed_on) in ACCEPTS {
         let stop = AtomicBool::new(false);
         let (to, from) = waiting_line(rt.alloc())?;
-        let script = Script {
+        let listener = ScriptedListener {
+            inner: listen(&rt, any_port())?,
             accepts,
             next: Cell::new(0),
             stop: &stop,
         };
-        accept_until_stopped(&rt, script, 0, NO_LIMITS, &stop, to);
+        gather_until_stopped(&rt, rt.alloc(), listener, rules(NONE, 8), &stop, to)?;
         let waiting = from.len();
         assert!(rt; waiting == *handed_on, "{accepts:?}, {waiting}");
     }
     Ok(())
 }
 
-/// A listener whose backlog is never empty. Just before the line is full it sets the flag, if it is told to.
+/// A listener whose backlog is never empty.
 #[derive(Drop)]
-struct Crowd<'a> {
-    given: Cell<usize>,
-    stop: &'a AtomicBool,
+struct Crowd {
+    inner: TcpListener,
 }
 
-impl<'a> OpenListener for Crowd<'a> {
-    type Stream = Scripted;
-
-    fn accept(&self) -> io::Result<(Scripted, SocketAddr)> {
-        self.given.set(self.given.get().saturating_add(1));
-        if self.given.get() == MAX_WAITING {
-            self.stop.store(true, Ordering::SeqCst);
-        }
-        let address = SocketAddr::V4(SocketAddrV4::new(Ipv4Addr::new(10, 0, 0, 1), 80));
-        Ok((Scripted { is_limitable: true }, address))
+impl AsRawFd for Crowd {
+    fn as_raw_fd(&self) -> RawFd {
+        self.inner.as_raw_fd()
     }
 }
 
-// The line takes as many as it says though nobody takes any, and nobody waits for room in it.
+impl OpenListener for Crowd {
+    type Stream = Scripted;
+
+    fn set_nonblocking(&self, _nonblocking: bool) -> io::Result<()> {
+        Ok(())
+    }
+
+    fn accept(&self) -> io::Result<(Scripted, SocketAddr)> {
+        Ok(connection(true))
+    }
+}
+
+// Waits until the line is full, for 5 s at most, and then a while longer.
+fn wait_until_full<R: Clock>(rt: &R, line: &Receiver<Arrival<Scripted>>) {
+    for _ in 0..100 {
+        if line.len() >= MAX_WAITING {
+            break;
+        }
+        thread::sleep(rt, Duration::from_millis(50));
+    }
+    thread::sleep(rt, Duration::from_millis(50));
+}
+
+// A full line lets nobody be accepted but the one by whom that was seen, holds up no stop, and loses nobody.
 #[test]
-fn a_line_without_workers_holds_nobody_up(rt: HostRuntime) -> Result<(), Fail> {
+fn a_full_line_holds_nobody_up(rt: HostRuntime) -> Result<(), Fail> {
     let stop = AtomicBool::new(false);
     let (to, from) = waiting_line(rt.alloc())?;
     let crowd = Crowd {
-        given: Cell::new(0),
-        stop: &stop,
+        inner: listen(&rt, any_port())?,
     };
-    accept_until_stopped(&rt, crowd, 0, NO_LIMITS, &stop, to);
-    assert_eq!(rt; from.len(), MAX_WAITING);
+    let (gathered, (waiting, taken)) = join(
+        &rt,
+        || gather_until_stopped(&rt, rt.alloc(), crowd, rules(NONE, 8), &stop, to),
+        || {
+            wait_until_full(&rt, &from);
+            let waiting = from.len();
+            stop.store(true, Ordering::SeqCst);
+            // The thread sees the stop before there is room again.
+            thread::sleep(&rt, Duration::from_millis(300));
+            (waiting, take_all(&rt, &from, MAX_WAITING + 64))
+        },
+    );
+    gathered?;
+    assert_eq!(rt; (waiting, taken), (MAX_WAITING, MAX_WAITING + 1));
     Ok(())
 }
 
@@ -162,10 +219,9 @@ fn without_workers_it_ends(rt: HostRuntime) -> Result<(), Fail> {
     let (to, from) = waiting_line(rt.alloc())?;
     drop(from);
     let crowd = Crowd {
-        given: Cell::new(0),
-        stop: &stop,
+        inner: listen(&rt, any_port())?,
     };
-    accept_until_stopped(&rt, crowd, 0, NO_LIMITS, &stop, to);
+    gather_until_stopped(&rt, rt.alloc(), crowd, rules(NONE, 8), &stop, to)?;
     assert!(rt; !stop.load(Ordering::SeqCst));
     Ok(())
 }

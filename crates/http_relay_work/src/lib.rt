@@ -6,12 +6,10 @@
 //! says. Start at `work`, whose words are in `specs/Services.antt`.
 #![tactic(auto)]
 
-mod head_gate;
 mod relay;
 mod serving;
 mod working;
 
-pub use head_gate::HeadGate;
 pub use relay::{Relay, RelayWorker};
 pub use serving::serve_arrival;
 pub use working::work;

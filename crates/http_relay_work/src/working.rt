@@ -2,17 +2,16 @@ ghost use Rattle.std.specs.Prelude.{◌≡◌, ◌≤◌, List, length};
 ghost use Rattle.http_relay_serve.specs.Serves.{port_seen};
 ghost use Rattle.http_relay_work.specs.Services.{Service, ServesInTurn};
 
-use crate::{HeadGate, Relay, serve_arrival};
+use crate::{Relay, serve_arrival};
 use crossbeam_channel::Receiver;
 use http_relay_head::HEAD_ROOM;
-use http_relay_listen::Arrival;
+use http_relay_lobby::Arrival;
 use http_relay_serve::Worker;
 use http_relay_system::{SocketDialer, SystemClock};
 use lb_desk_ports::{Gate, Port};
 use std::alloc::Global;
 use std::net::Net;
 use std::sync::Wait;
-use std::sync::atomic::AtomicBool;
 use std::time::Clock;
 
 /// Serves one connection after another until the line is empty and all who put connections into it are gone, and gives the ports back,
@@ -36,10 +35,9 @@ where
     ensures served { (services : List Service) × ServesInTurn (port_seen P.entries P.refusals) P.server_of relay.entry.config.now
         ports.items result.items services }
 {
-    let head_read = AtomicBool::new(false);
     let mut worker = Worker {
         clock: SystemClock::new(relay.start),
-        gate: HeadGate::new(gate, &head_read),
+        gate,
         dialer: SocketDialer::new(),
     };
     let mut room = [0; HEAD_ROOM];

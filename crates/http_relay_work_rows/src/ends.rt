@@ -1,21 +1,21 @@
-use crate::site::{NOWHERE, OPEN, TIMED, client, config, got, open_port};
+use crate::site::{NOWHERE, OPEN, TIMED, arrival, client, config, got, open_port};
 use http_relay_head::HEAD_ROOM;
-use http_relay_listen::Arrival;
 use http_relay_serve::{Cause, DropCause, Outcome, Worker};
 use http_relay_socket::StreamLimits;
 use http_relay_system::{SocketDialer, SystemClock};
 use http_relay_wire::WireFault;
-use http_relay_work::{HeadGate, Relay, serve_arrival};
+use http_relay_work::{Relay, serve_arrival};
 use lb_desk_ports::{OpenGate, PortScript, ScriptedPort};
-use std::net::{Ipv4Addr, TcpListener};
-use std::sync::atomic::AtomicBool;
+use std::net::TcpListener;
 use std::test::Fail;
 use std::time::Instant;
 
-/// The frontend, whether all is to stop, what the client sends and whether nothing follows, the outcome, and what the client gets.
+/// The frontend, what the lobby read of the client and how that ended, what follows on the stream and whether that ends there, the
+/// outcome, and what the client gets.
 type Row = (
     usize,
-    bool,
+    &'static [u8],
+    Option<WireFault>,
     &'static [u8],
     bool,
     Option<Outcome>,
@@ -38,27 +38,48 @@ const NOT_DIALLED: Option<Outcome> = Some(Outcome::Answered(Cause::NotDialled(Wi
 const UNAVAILABLE: &[u8] =
     b"HTTP/1.1 503 Service Unavailable\r\nContent-Length: 0\r\nConnection: close\r\n\r\n";
 
+const BAD_REQUEST: &[u8] =
+    b"HTTP/1.1 400 Bad Request\r\nContent-Length: 0\r\nConnection: close\r\n\r\n";
+
 const ROWS: &[Row] = &[
-    (OPEN, false, REQUEST, true, NOT_DIALLED, UNAVAILABLE),
-    (TIMED, true, REQUEST, false, NOT_DIALLED, UNAVAILABLE),
-    (OPEN, true, b"GET / HT", false, BROKEN_OFF, b""),
+    (OPEN, REQUEST, None, b"", true, NOT_DIALLED, UNAVAILABLE),
     (
         TIMED,
-        true,
+        b"GET / HTTP/1.1\r\n",
+        None,
+        b"Host: a\r\n\r\n",
+        false,
+        NOT_DIALLED,
+        UNAVAILABLE,
+    ),
+    (
+        OPEN,
         b"GET / HT",
+        Some(WireFault::Broken),
+        b"",
+        false,
+        BROKEN_OFF,
+        b"",
+    ),
+    (
+        TIMED,
+        b"GET / HT",
+        Some(WireFault::Timeout),
+        b"",
         false,
         Some(Outcome::Answered(Cause::HeadTimedOut)),
         b"HTTP/1.1 408 Request Timeout\r\nContent-Length: 0\r\nConnection: close\r\n\r\n",
     ),
     (
         OPEN,
-        false,
         b"GET / HT",
+        None,
+        b"",
         true,
         Some(Outcome::Answered(Cause::HeadCutShort)),
-        b"HTTP/1.1 400 Bad Request\r\nContent-Length: 0\r\nConnection: close\r\n\r\n",
+        BAD_REQUEST,
     ),
-    (NOWHERE, false, REQUEST, true, None, b""),
+    (NOWHERE, REQUEST, None, b"", true, None, b""),
 ];
 
 // Serves the row's request over one port, and gives the outcome and what the client got.
@@ -68,18 +89,15 @@ fn serve<'a>(
     port: &'a PortScript<'a>,
     row: &Row,
 ) -> Result<(Option<Outcome>, Vec<u8>), Fail> {
-    let (frontend, _, sent, ends, _, _) = *row;
+    let (frontend, head, failed, sent, ends, _, _) = *row;
     let (stream, mut far) = client(rt, sent, ends)?;
     LIMITS.set(&stream)?;
-    let arrival = Arrival {
-        stream,
-        source: Ipv4Addr::LOCALHOST,
-        frontend,
+    let Some(arrival) = arrival(rt, stream, frontend, head, failed)? else {
+        return Ok((None, Vec::new(rt.alloc())));
     };
-    let head_read = AtomicBool::new(false);
     let mut worker = Worker {
         clock: SystemClock::new(relay.start),
-        gate: HeadGate::new(OpenGate, &head_read),
+        gate: OpenGate,
         dialer: SocketDialer::new(),
     };
     let mut ports = Vec::new(rt.alloc());
@@ -100,7 +118,7 @@ fn serve<'a>(
     Ok((outcome, got(rt, &mut far)?))
 }
 
-// A client without a limit is closed without an answer where the balancer stops before its head came; one with a limit is answered.
+// What the lobby read comes before what the stream has, and what it saw of the reading's end is what the worker's reading ends with.
 #[test]
 fn connections_end_as_their_frontend_says(rt: HostRuntime) -> Result<(), Fail> {
     let gone = TcpListener::bind(&rt, "127.0.0.1:0")?.local_addr()?.port();
@@ -108,17 +126,15 @@ fn connections_end_as_their_frontend_says(rt: HostRuntime) -> Result<(), Fail> {
     let start = Instant::now(&rt)?;
     let port = open_port();
     for row in ROWS {
-        let (_, is_stopped, sent, _, wanted, text) = row;
-        let stop = AtomicBool::new(*is_stopped);
+        let (_, head, _, _, _, wanted, text) = row;
         let relay = Relay {
             config: &config,
-            stop: &stop,
             start,
         };
         let (outcome, answer) = serve(&rt, relay, &port, row)?;
         assert!(rt;
             outcome == *wanted && answer.as_slice() == *text,
-            "{sent:?}: {outcome:?}"
+            "{head:?}: {outcome:?}"
         );
     }
     Ok(())

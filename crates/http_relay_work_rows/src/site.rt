@@ -1,10 +1,12 @@
+use http_relay_lobby::Arrival;
+use http_relay_wire::WireFault;
 use lb_config::{Config, read_config};
 use lb_desk_model::ServedAs;
 use lb_desk_ports::{Asked, Filed, PortScript, Shut};
 use lb_types::ServerId;
 use std::io;
 use std::io::{ErrorKind, Read, Write};
-use std::net::{Shutdown, TcpListener, TcpStream};
+use std::net::{Ipv4Addr, Shutdown, SocketAddr, SocketAddrV4, TcpListener, TcpStream};
 use std::test::Fail;
 use std::time::Duration;
 
@@ -52,6 +54,25 @@ pub(crate) fn client(
     }
     let (near, _) = listener.accept()?;
     Ok((near, far))
+}
+
+/// The connection of a client of this host, of which the lobby read these bytes, and failed so behind them.
+pub(crate) fn arrival(
+    rt: &HostRuntime,
+    stream: TcpStream,
+    frontend: usize,
+    head: &[u8],
+    failed: Option<WireFault>,
+) -> Result<Option<Arrival<TcpStream>>, Fail> {
+    let address = SocketAddr::V4(SocketAddrV4::new(Ipv4Addr::LOCALHOST, 80));
+    let Some(mut arrival) = Arrival::of(rt.alloc(), stream, address, frontend) else {
+        return Ok(None);
+    };
+    arrival.failed = failed;
+    if head.len() > arrival.room_left() {
+        return Ok(None);
+    }
+    Ok(Some(arrival.with_read(head)?))
 }
 
 /// All that the client gets until the connection is closed or reset, within five seconds.

@@ -1,14 +1,13 @@
-use crate::site::{NOWHERE, OPEN, TIMED, client, config, got, open_port};
+use crate::site::{NOWHERE, OPEN, TIMED, arrival, client, config, got, open_port};
 use crossbeam_channel::Receiver;
-use http_relay_listen::{Arrival, waiting_line};
+use http_relay_lobby::{Arrival, waiting_line};
 use http_relay_work::{Relay, work};
 use lb_desk_ports::{OpenGate, PortScript, ScriptedPort};
 use std::alloc::Global;
 use std::io;
 use std::io::{Read, Write};
-use std::net::{Ipv4Addr, Net, TcpListener};
+use std::net::{Net, TcpListener};
 use std::sync::Wait;
-use std::sync::atomic::AtomicBool;
 use std::test::Fail;
 use std::thread::join;
 use std::time::{Clock, Instant};
@@ -60,23 +59,15 @@ fn a_worker_serves_what_stands_in_the_line(rt: HostRuntime) -> Result<(), Fail> 
     let (to, from) = waiting_line(rt.alloc())?;
     let mut clients = Vec::new(rt.alloc());
     for frontend in [OPEN, NOWHERE, TIMED] {
-        let (stream, far) = client(&rt, REQUEST, true)?;
-        let source = Ipv4Addr::LOCALHOST;
-        to.send(
-            &rt,
-            Arrival {
-                stream,
-                source,
-                frontend,
-            },
-        )?;
+        let (stream, far) = client(&rt, b"", true)?;
+        if let Some(arrival) = arrival(&rt, stream, frontend, REQUEST, None)? {
+            to.send(&rt, arrival)?;
+        }
         clients.push(far)?;
     }
     drop(to);
-    let stop = AtomicBool::new(false);
     let relay = Relay {
         config: &config,
-        stop: &stop,
         start: Instant::now(&rt)?,
     };
     let port = open_port();

@@ -12,15 +12,25 @@ use std::io::{BufRead, BufReader, BufWriter, Write};
 use std::rt::Files;
 use std::{fs, io};
 
-/// Does the job, with its answer on `out` and what hindered it on `err`, and tells the program's exit status, `status_of`
-/// what came of the job.
-pub fn perform<R: Files, O: Write, E: Write>(
+/// What came of a job.
+#[derive(Debug, Drop)]
+pub enum Performed<'a> {
+    /// It was done, or something hindered it, which was told. The program exits with this status.
+    Ended(u8),
+    /// The load of the configuration that this text is, read from this file, is to be balanced. That takes threads and sockets, so
+    /// it is left to the caller, and `end` tells what comes of it.
+    Run { file: &'a str, text: Vec<u8> },
+}
+
+/// Does the job, with its answer on `out` and what hindered it on `err`, and tells the program's exit status, that of `end`; but for
+/// a configuration to run, which is read.
+pub fn perform<'a, R: Files, O: Write, E: Write>(
     alloc: Global,
     rt: &R,
-    job: Job<'_>,
+    job: Job<'a>,
     out: &mut O,
     err: &mut E,
-) -> u8 {
+) -> Performed<'a> {
     let (file, done) = match job {
         Job::Verify { file } => (file, verify_file(alloc, rt, file, out)),
         Job::VerifyForSheet { sheet, plan } => verify_files(alloc, rt, sheet, plan, out),
@@ -28,8 +38,19 @@ pub fn perform<R: Files, O: Write, E: Write>(
         Job::PlanTable { file } => (file, table_file(alloc, rt, file, out)),
         Job::Check { file } => (file, check_file(alloc, rt, file, out)),
         Job::Replay { config, script } => replay_files(alloc, rt, config, script, out, err),
+        Job::Run { file } => match whole_file(alloc, rt, file) {
+            Ok(text) => return Performed::Run { file, text },
+            Err(error) => (file, Err(error)),
+        },
         Job::Version => ("", version(out)),
     };
+    Performed::Ended(end(done, file, err))
+}
+
+/// Tells on `err` what hindered a job with this file, if anything did, and gives the exit status: `status_of` what came of the job.
+pub fn end<E: Write>(done: Result<bool, JobError>, file: &str, err: &mut E) -> u8
+    ensures { result ≡ status_of done }
+{
     if let Err(error) = done {
         // A message that can't be written leaves only the status.
         let _ = tell(err, error, file);

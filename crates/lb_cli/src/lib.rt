@@ -20,7 +20,7 @@ mod version_job;
 
 pub use check_job::check;
 pub use finding::Finding;
-pub use jobs::{perform, status_of};
+pub use jobs::{Performed, end, perform, status_of};
 pub use lb_cli_faults::JobError;
 pub use plan_job::{plan, plan_tables};
 pub use sheet_job::{sheet_for, verify_for};

@@ -5,8 +5,8 @@ ghost use Rattle.lb_cli.specs.declared.version_job.TheConstants.{VERSION};
 use crate::JobError;
 use std::io::Write;
 
-/// The line of the program's version, and of the toolchain that proves it, as `rt version` prints that.
-pub const VERSION: &[u8] = b"stickylb 0.1.0, proved with rattle-kit-13b logic dac8208d650f15bf\n";
+/// The line of the program's version, and of the logic that proves it, whose digest `rt version` prints last.
+pub const VERSION: &[u8] = b"stickylb 0.1.0, proved with rattle logic dac8208d650f15bf\n";
 
 /// Writes the line `VERSION`.
 pub fn version<W: Write>(out: &mut W) -> Result<bool, JobError>

@@ -28,6 +28,9 @@ plan_app = with_rule (with_rule (new_app (codes "plan")) (flag_rule (codes "tabl
 abbrev pub check_app : App
 check_app = with_rule (new_app (codes "check")) file_option_rule
 
+abbrev pub run_app : App
+run_app = with_rule (new_app (codes "run")) file_option_rule
+
 -- an argument in its place that names a file
 abbrev pub operand_rule : Text → Rule
 operand_rule name = record (new_rule name) { value_names = 1; required = true }
@@ -51,5 +54,5 @@ program_app = with_rule plain_app (flag_rule (codes "version"))
 
 -- the program with its commands
 abbrev pub commands_app : App
-commands_app = with_subcommand (with_subcommand (with_subcommand (with_subcommand program_app
-    verify_app.top) plan_app.top) check_app.top) replay_app.top
+commands_app = with_subcommand (with_subcommand (with_subcommand (with_subcommand (with_subcommand program_app
+    verify_app.top) plan_app.top) check_app.top) replay_app.top) run_app.top

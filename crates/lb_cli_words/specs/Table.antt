@@ -4,7 +4,7 @@ use Rattle.std.specs.Prelude.{Option, Some, None, option_map, if◌then◌else�
 use Rattle.std.specs.Option.{option_or}
 use Rattle.lb_cli_words.specs.Words.{Text, Reader, flagged, lettered, named, operands_of, files_with, taken_out, is_help, asks_help_within, asks_help_with}
 use Rattle.lb_cli_words.specs.declared.job.Job.{Job}
-use Rattle.lb_cli_words.specs.declared.job.Job.TheVariants.{Verify, VerifyForSheet, Plan, PlanTable, Check, Replay, Version}
+use Rattle.lb_cli_words.specs.declared.job.Job.TheVariants.{Verify, VerifyForSheet, Plan, PlanTable, Check, Replay, Run, Version}
 use Rattle.lb_cli_words.specs.declared.own_option.OwnOption.{OwnOption}
 use Rattle.lb_cli_words.specs.declared.own_option.OwnOption.TheVariants.{File, Sheet, Table}
 
@@ -20,6 +20,7 @@ row_of (Plan file) = (codes "plan", file.now ∷ [])
 row_of (PlanTable file) = (codes "plan --table", file.now ∷ [])
 row_of (Check file) = (codes "check", file.now ∷ [])
 row_of (Replay config script) = (codes "replay", config.now ∷ script.now ∷ [])
+row_of (Run file) = (codes "run", file.now ∷ [])
 row_of Version = (codes "--version", [])
 
 -- the options by which a command is another one, or names its file
@@ -47,6 +48,9 @@ check_row words = as_row (codes "check") (files_with (reader_of File) 0 words)
 abbrev pub replay_row : List Text → Option Row
 replay_row words = as_row (codes "replay") (operands_of 2 words)
 
+abbrev pub run_row : List Text → Option Row
+run_row words = as_row (codes "run") (files_with (reader_of File) 0 words)
+
 abbrev pub version_row : List Text → Option Row
 version_row [] = Some (codes "--version", [])
 version_row _ = None
@@ -58,6 +62,7 @@ row_behind command words =
     else if bytes_eq command (codes "plan") then plan_row words
     else if bytes_eq command (codes "check") then check_row words
     else if bytes_eq command (codes "replay") then replay_row words
+    else if bytes_eq command (codes "run") then run_row words
     else if bytes_eq command (codes "--version") then version_row words
     else None
 
@@ -68,6 +73,7 @@ asks_help_behind command words =
     else if bytes_eq command (codes "plan") then asks_help_within 1 words || asks_help_with (taken_out (reader_of Table)) 1 words
     else if bytes_eq command (codes "check") then asks_help_within 0 words || asks_help_with (reader_of File) 0 words
     else if bytes_eq command (codes "replay") then asks_help_within 2 words
+    else if bytes_eq command (codes "run") then asks_help_within 0 words || asks_help_with (reader_of File) 0 words
     else false
 
 -- the row that the words are. The first word is the program's name, the second a command of the table

@@ -2,7 +2,7 @@
 ghost use Rattle.std.specs.Prelude.{◌≡◌, IfOk, false};
 ghost use Rattle.clap.specs.Words.{app_of};
 ghost use Rattle.clap.specs.declared.builder.command.Command.TheViews.{out-Command as fields_of};
-ghost use Rattle.lb_cli_words.specs.Clap.{check_app, commands_app, plan_app, program_app, replay_app, verify_app};
+ghost use Rattle.lb_cli_words.specs.Clap.{check_app, commands_app, plan_app, program_app, replay_app, run_app, verify_app};
 
 use clap::{Arg, ArgAction, Command};
 use std::alloc::{AllocError, Global};
@@ -15,7 +15,8 @@ pub(crate) fn commands<'a>(alloc: Global) -> Result<Command<'a>, AllocError>
         .subcommand(verify(alloc)?)?
         .subcommand(plan(alloc)?)?
         .subcommand(check(alloc)?)?
-        .subcommand(replay(alloc)?)
+        .subcommand(replay(alloc)?)?
+        .subcommand(run(alloc)?)
 }
 
 /// The program without commands.
@@ -28,7 +29,9 @@ fn program<'a>(alloc: Global) -> Result<Command<'a>, AllocError>
         .help("Print the program's version, and what it is proved with")
         .action(ArgAction::SetTrue);
     Command::new(alloc, "stickylb")
-        .about("Plans the moves of a stick table's pins, checks plans, and reads configurations")
+        .about(
+            "Balances load with stick tables, plans the moves of their pins, checks plans, and reads configurations",
+        )
         .arg_required_else_help(true)
         .subcommand_required(true)
         .disable_help_subcommand(true)
@@ -117,4 +120,24 @@ fn replay<'a>(alloc: Global) -> Result<Command<'a>, AllocError>
         )
         .arg(config)?
         .arg(script)
+}
+
+fn run<'a>(alloc: Global) -> Result<Command<'a>, AllocError>
+    ensures app { IfOk result (λ c. app_of c ≡ run_app) }
+    ensures local { IfOk result (λ c. (fields_of c).has_globals ≡ false) }
+{
+    let file = Arg::new(alloc, "file")
+        .short('f')
+        .value_name("FILE")
+        .help("File that holds the configuration")
+        .required(true);
+    Command::new(alloc, "run")
+        .about(
+            "Balance the load of a configuration, until the command `stop` comes over its socket",
+        )
+        .after_help(
+            "Prints `closed BACKEND events N rising yes` for each backend at the end, with status 0; or the \
+             configuration's first fault, as `line 2: 22 UnknownWord`, or the address that can't be bound, with status 1.",
+        )
+        .arg(file)
 }

@@ -13,6 +13,8 @@ pub enum Job<'a> {
     Check { file: &'a str },
     /// `replay <config> <script>`: replay the script at the backend of the configuration.
     Replay { config: &'a str, script: &'a str },
+    /// `run -f <file>`: balance the load of the configuration in the file.
+    Run { file: &'a str },
     /// `--version`: print the program's version.
     Version,
 }

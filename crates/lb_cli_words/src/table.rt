@@ -1,8 +1,8 @@
 //! The table of commands, as words are read by it.
-ghost use Rattle.std.specs.Prelude.{◌≡◌, option_map};
-ghost use Rattle.lb_cli_words.specs.Words.{asks_help_with, texts};
+ghost use Rattle.std.specs.Prelude.{◌≡◌, ◌∷◌, [], option_map};
+ghost use Rattle.lb_cli_words.specs.Words.{asks_help_with, files_with, texts};
 ghost use Rattle.lb_cli_words.specs.Table.{asks_help, asks_help_behind, reader_of, row_behind, row_in, row_of};
-ghost use Rattle.lb_cli_words.specs.Table.{check_row, plan_row, replay_row, verify_row, version_row};
+ghost use Rattle.lb_cli_words.specs.Table.{check_row, plan_row, replay_row, run_row, verify_row, version_row};
 ghost use Rattle.lb_cli_words.specs.declared.own_option.OwnOption.TheVariants.{File};
 
 use crate::Job;
@@ -27,6 +27,7 @@ fn job_behind<'a>(command: &str, words: &'a [&'a str]) -> Option<Job<'a>>
         "plan" => plan(words),
         "check" => check(words),
         "replay" => replay(words),
+        "run" => run(words),
         "--version" => version(words),
         _ => None,
     }
@@ -56,9 +57,17 @@ fn plan<'a>(words: &'a [&'a str]) -> Option<Job<'a>>
 fn check<'a>(words: &'a [&'a str]) -> Option<Job<'a>>
     ensures { option_map row_of result ≡ check_row (texts words.now) }
 {
+    let file = only_file(words)?;
+    Some(Job::Check { file })
+}
+
+/// The value of `-f`, where nothing else stands in the words.
+fn only_file<'a>(words: &'a [&'a str]) -> Option<&'a str>
+    ensures { option_map (λ file. file.now ∷ []) result ≡ files_with (reader_of File) 0 (texts words.now) }
+{
     let given = OwnOption::File.read(words)?;
     let file = given.value?;
-    is_end(given.rest).then_some(Job::Check { file })
+    is_end(given.rest).then_some(file)
 }
 
 fn replay<'a>(words: &'a [&'a str]) -> Option<Job<'a>>
@@ -66,6 +75,13 @@ fn replay<'a>(words: &'a [&'a str]) -> Option<Job<'a>>
 {
     let (config, script) = two_operands(words)?;
     Some(Job::Replay { config, script })
+}
+
+fn run<'a>(words: &'a [&'a str]) -> Option<Job<'a>>
+    ensures { option_map row_of result ≡ run_row (texts words.now) }
+{
+    let file = only_file(words)?;
+    Some(Job::Run { file })
 }
 
 fn version<'a>(words: &[&str]) -> Option<Job<'a>>
@@ -90,14 +106,15 @@ fn asks_help_behind(command: &str, words: &[&str]) -> bool
     match command {
         "verify" => asks_help_within(1, words) || OwnOption::Sheet.asks_help(words),
         "plan" => asks_help_within(1, words) || OwnOption::Table.asks_help(words),
-        "check" => asks_help_within(0, words) || check_asks_help(words),
+        "check" => asks_help_within(0, words) || file_asks_help(words),
         "replay" => asks_help_within(2, words),
+        "run" => asks_help_within(0, words) || file_asks_help(words),
         _ => false,
     }
 }
 
-/// Whether help is asked for behind the file of `check`.
-fn check_asks_help(words: &[&str]) -> bool
+/// Whether help is asked for behind the value of `-f`.
+fn file_asks_help(words: &[&str]) -> bool
     ensures { result ≡ asks_help_with (reader_of File) 0 (texts words.now) }
 {
     match OwnOption::File.read(words) {

@@ -48,6 +48,7 @@ fn plain_request(words: &[&str]) -> &'static [&'static str]
         [_, "plan", ..] => &["stickylb", "plan", "--help"],
         [_, "replay", ..] => &["stickylb", "replay", "--help"],
         [_, "check", ..] => &["stickylb", "check", "--help"],
+        [_, "run", ..] => &["stickylb", "run", "--help"],
         _ => &["stickylb", "--help"],
     }
 }

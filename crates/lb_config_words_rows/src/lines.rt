@@ -324,7 +324,7 @@ const RULES: [(&str, &str); 20] = [
     ("pin-cost 1", "23"),
 ];
 
-// In which sections a keyword stands is told in `lb_check_rows`.
+// In which sections a keyword stands is told in `tests/check/keywords.toml`.
 #[test]
 fn keywords_with_their_arguments_and_first_faults_of_lines(rt: HostRuntime) -> Result<(), Fail> {
     expect_said(&rt, rt.alloc(), Some(Section::Global), &IN_GLOBAL)?;

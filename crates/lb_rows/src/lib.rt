@@ -1,14 +1,12 @@
-//! Worked rows: whole inputs with the answers that the product owes them, and brute force over small inputs.
+//! Jobs over readers and writers that fail.
 //!
-//! Tests alone, through the program's jobs over readers and writers. Texts of plans and sheets stand in `dual_cert_rows`,
-//! and configurations with their reports in `lb_check_rows`.
+//! Tests alone. Whole texts with their answers, files that aren't there and answers that can't be written are cases of
+//! `tests/`, through the program itself.
 #![tactic(auto)]
 
 #[cfg(test)]
-mod broken_files;
+mod broken;
 #[cfg(test)]
-mod brute_force;
+mod jobs;
 #[cfg(test)]
-mod plan_jobs;
-#[cfg(test)]
-mod sheet_jobs;
+mod replays;

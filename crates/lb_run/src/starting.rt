@@ -7,7 +7,7 @@ use crate::floor::Floor;
 use crate::threads::{check, listen, plan, relay};
 use command_socket_listen::CommandListener;
 use crossbeam_channel::{Receiver, Sender, bounded};
-use http_relay_listen::{Arrival, waiting_line};
+use http_relay_lobby::{Arrival, waiting_line};
 use lb_config::BackendConfig;
 use lb_desk_planner::Bell;
 use lb_desk_ports::Refused;

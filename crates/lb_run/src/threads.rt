@@ -8,7 +8,7 @@ use check_workers_loop::check_until_stopped;
 use check_workers_system::SocketProbe;
 use check_workers_targets::{checks_of, targets_of};
 use crossbeam_channel::{Receiver, Sender};
-use http_relay_listen::{Arrival, accept_until_stopped};
+use http_relay_lobby::{Arrival, MOST_GUESTS, Rules, gather_until_stopped};
 use http_relay_system::SystemClock;
 use http_relay_work::{Relay, work};
 use lb_desk_planner::{Bell, Notices, plan_when_told};
@@ -17,7 +17,7 @@ use lb_desk_shared::Naming;
 use lb_run_doors::ClientDoor;
 use std::net::TcpStream;
 
-/// Accepts the clients of a frontend until the balancer ends.
+/// Accepts the clients of a frontend, and hands on those whose heads are whole, until the balancer ends.
 pub(crate) fn listen<R: Host, B: Naming>(
     rt: &R,
     floor: &Floor<'_, B>,
@@ -30,7 +30,14 @@ pub(crate) fn listen<R: Host, B: Naming>(
         frontend,
         limits,
     } = door;
-    accept_until_stopped(rt, listener, frontend, limits, floor.stop, to);
+    let rules = Rules {
+        frontend,
+        limits,
+        most_guests: MOST_GUESTS,
+    };
+    if gather_until_stopped(rt, floor.alloc, listener, rules, floor.stop, to).is_err() {
+        floor.starve();
+    }
 }
 
 /// Serves clients until no listener is left and no client waits.
@@ -45,7 +52,6 @@ pub(crate) fn relay<R: Host, B: Naming>(
     };
     let relay = Relay {
         config: floor.config,
-        stop: floor.stop,
         start: floor.start,
     };
     let seats = work(rt, floor.alloc, relay, &arrivals, OpenGate, seats);

@@ -1,16 +1,23 @@
-//! `stickylb`: a load balancer whose promises are proved. `lb_cli_words` reads the words of the command line, and
-//! `lb_cli` does the job that they ask for.
+//! `stickylb`: a load balancer whose promises are proved. `lb_cli_words` reads the words of the command line,
+//! `lb_cli` does the job that they ask for, and `lb_run` balances.
 #![tactic(auto)]
 
-use lb_cli::perform;
+use lb_cli::{Performed, end, perform};
 use lb_cli_words::{Error, ErrorKind, exit_status, read_words};
-use std::env;
+use lb_run::run_text;
+use std::marker::PhantomData;
+use std::net::{TcpListener, TcpStream};
 use std::process::ExitCode;
+use std::{env, io};
 
 fn main(rt: HostRuntime) -> ExitCode {
-    let Ok(words) = env::args(&rt) else {
-        let _ = eprintln!(rt; "the words of the command line can't be read");
-        return ExitCode::from(2);
+    let words = match env::args(&rt) {
+        Ok(words) => words,
+        Err(error) if error.kind() == io::ErrorKind::OutOfMemory => return out_of_memory(&rt),
+        Err(_) => {
+            let _ = eprintln!(rt; "the words of the command line can't be read");
+            return ExitCode::from(2);
+        }
     };
     let Ok(words) = words.collect::<Vec<String>>(rt.alloc()) else {
         return out_of_memory(&rt);
@@ -19,15 +26,20 @@ fn main(rt: HostRuntime) -> ExitCode {
     let Ok(texts) = texts.collect::<Vec<&str>>(rt.alloc()) else {
         return out_of_memory(&rt);
     };
-    match read_words(rt.alloc(), &texts) {
-        Ok(job) => ExitCode::from(perform(
-            rt.alloc(),
-            &rt,
-            job,
-            &mut rt.stdout(),
-            &mut rt.stderr(),
-        )),
-        Err(error) => complain(&rt, &error),
+    let job = match read_words(rt.alloc(), &texts) {
+        Ok(job) => job,
+        Err(error) => return complain(&rt, &error),
+    };
+    // The prover wants the types of sockets named where threads get them.
+    let _sockets: PhantomData<(TcpListener, TcpStream)> = PhantomData;
+    let mut out = rt.stdout();
+    let mut err = rt.stderr();
+    match perform(rt.alloc(), &rt, job, &mut out, &mut err) {
+        Performed::Ended(status) => ExitCode::from(status),
+        Performed::Run { file, text } => {
+            let done = run_text(&rt, rt.alloc(), &text, &mut out, &mut err);
+            ExitCode::from(end(done, file, &mut err))
+        }
     }
 }
 

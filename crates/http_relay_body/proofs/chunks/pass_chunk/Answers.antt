@@ -1,37 +1,38 @@
-use Rattle.std.proofs.Common.{arith, ◌<◌, [], sym, subst, true, false}
-use Rattle.http_relay_body.proofs.Moves.{take_nothing, append_nothing, fault_handed, part_later}
-use Rattle.http_relay_body.specs.Parts.{IsSizeText, IsTrailerText, IsDataText, IsChunkText}
+use Rattle.std.proofs.Common.{arith, ◌<◌, [], subst, true, false}
+use Rattle.http_relay_body.specs.declared.chunks.part.Part.TheVariants.{SizeLine, Trailer}
+use Rattle.http_relay_body.specs.Parts.{IsSizeText, IsDataText, IsChunkText, IsPartText}
 use Rattle.http_relay_body.proofs.Parts.{first_size, skip_last, skip_size, join_last, join_chunk}
+use Rattle.http_relay_body.proofs.Rooms.{carry_nothing, handed_later, passed_later}
 use Rattle.http_relay_body.proofs.chunks.pass_chunk.Goals as goal
 
-pub returns-in_err-size-clause-moved : goal.returns-in_err-size-clause-moved
-returns-in_err-size-clause-moved g c =
-    fault_handed IsChunkText IsSizeText _ _ _ _ _ _ _ _ _ _ _ [] c.from_residual.ensures.1 (take_nothing _ _) (sym (append_nothing _)) first_size c.in_err-size.ensures.moved
+pub returns-in_err-size-clause-passed : goal.returns-in_err-size-clause-passed
+returns-in_err-size-clause-passed g c =
+    handed_later IsChunkText (IsPartText SizeLine) _ _ _ [] _ _ c.from_residual.ensures.1 (carry_nothing _) first_size c.in_err-size.ensures.passed
 
-pub returns-in_err-pass_trailer-clause-moved : goal.returns-in_err-pass_trailer-clause-moved
-returns-in_err-pass_trailer-clause-moved g c =
-    let front = c.in_ok-size.ensures.moved in
-    let zero : IsSizeText 0 front.text = subst (λ size. IsSizeText size front.text) c.if-size-eq0.true front.answers in
-    fault_handed IsChunkText IsTrailerText _ _ _ _ _ _ _ _ _ _ _ front.text c.from_residual-in_err-pass_trailer.ensures.1 front.taken front.sent
-    (λ rest. skip_last tt front.text rest zero) c.in_err-pass_trailer.ensures.moved
+pub returns-in_err-pass_part-clause-passed : goal.returns-in_err-pass_part-clause-passed
+returns-in_err-pass_part-clause-passed g c =
+    let front = c.in_ok-size.ensures.passed in
+    let zero : IsSizeText 0 front.0 = subst (λ size. IsSizeText size front.0) c.if-size-eq0.true front.1 in
+    handed_later IsChunkText (IsPartText Trailer) _ _ _ front.0 _ _ c.from_residual-in_err-pass_part.ensures.1 front.2
+    (λ rest. skip_last 0 front.0 rest zero) c.in_err-pass_part.ensures.passed
 
-pub returns-then-size-eq0-clause-moved : goal.returns-then-size-eq0-clause-moved
-returns-then-size-eq0-clause-moved g c =
-    let front = c.in_ok-size.ensures.moved in
-    let zero : IsSizeText 0 front.text = subst (λ size. IsSizeText size front.text) c.if-size-eq0.true front.answers in
-    part_later IsChunkText IsTrailerText _ _ _ _ _ _ _ _ _ true c.in_ok-pass_trailer.field-0 front.text front.taken front.sent
-    (λ rest. join_last c.in_ok-pass_trailer.field-0 front.text rest zero) c.in_ok-pass_trailer.ensures.moved
+pub returns-then-size-eq0-clause-passed : goal.returns-then-size-eq0-clause-passed
+returns-then-size-eq0-clause-passed g c =
+    let front = c.in_ok-size.ensures.passed in
+    let zero : IsSizeText 0 front.0 = subst (λ size. IsSizeText size front.0) c.if-size-eq0.true front.1 in
+    passed_later IsChunkText (IsPartText Trailer) _ _ _ front.0 true c.in_ok-pass_part.field-0 front.2
+    (λ rest. join_last c.in_ok-pass_part.field-0 front.0 rest zero) c.in_ok-pass_part.ensures.passed
 
-pub returns-in_err-pass_data-clause-moved : goal.returns-in_err-pass_data-clause-moved
-returns-in_err-pass_data-clause-moved g c =
-    let front = c.in_ok-size.ensures.moved in
+pub returns-in_err-pass_data-clause-passed : goal.returns-in_err-pass_data-clause-passed
+returns-in_err-pass_data-clause-passed g c =
+    let front = c.in_ok-size.ensures.passed in
     let some : 0 < c.in_ok-size.size = omega (arith, c.if-size-eq0.false) in
-    fault_handed IsChunkText (IsDataText c.in_ok-size.size) _ _ _ _ _ _ _ _ _ _ _ front.text c.from_residual-in_err-pass_data.ensures.1 front.taken front.sent
-    (λ rest. skip_size tt c.in_ok-size.size front.text rest some front.answers) c.in_err-pass_data.ensures.moved
+    handed_later IsChunkText (IsDataText c.in_ok-size.size) _ _ _ front.0 _ _ c.from_residual-in_err-pass_data.ensures.1 front.2
+    (λ rest. skip_size tt c.in_ok-size.size front.0 rest some front.1) c.in_err-pass_data.ensures.passed
 
-pub returns-clause-moved : goal.returns-clause-moved
-returns-clause-moved g c =
-    let front = c.in_ok-size.ensures.moved in
+pub returns-clause-passed : goal.returns-clause-passed
+returns-clause-passed g c =
+    let front = c.in_ok-size.ensures.passed in
     let some : 0 < c.in_ok-size.size = omega (arith, c.if-size-eq0.false) in
-    part_later IsChunkText (IsDataText c.in_ok-size.size) _ _ _ _ _ _ _ _ _ false c.in_ok-pass_data.field-0 front.text front.taken front.sent
-    (λ rest. join_chunk c.in_ok-pass_data.field-0 c.in_ok-size.size front.text rest some front.answers) c.in_ok-pass_data.ensures.moved
+    passed_later IsChunkText (IsDataText c.in_ok-size.size) _ _ _ front.0 false c.in_ok-pass_data.field-0 front.2
+    (λ rest. join_chunk c.in_ok-pass_data.field-0 c.in_ok-size.size front.0 rest some front.1) c.in_ok-pass_data.ensures.passed

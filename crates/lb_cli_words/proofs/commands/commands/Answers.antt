@@ -1,7 +1,7 @@
 use Rattle.std.proofs.Common.{rules, ◌≡◌, ◌∙◌, ap, ap₂}
 use Rattle.std.proofs.lemmas.Result.{IfOk-weaker}
 use Rattle.clap.specs.Words.{App, app_of, with_subcommand}
-use Rattle.lb_cli_words.specs.Clap.{program_app, verify_app, plan_app, check_app, replay_app}
+use Rattle.lb_cli_words.specs.Clap.{program_app, verify_app, plan_app, check_app, replay_app, run_app}
 use Rattle.lb_cli_words.proofs.commands.commands.Goals as goal
 
 pub returns : goal.returns
@@ -18,5 +18,9 @@ returns c =
     let with_check : app_of c.in_ok-subcommand-3.field-0
     ≡ with_subcommand (with_subcommand (with_subcommand program_app verify_app.top) plan_app.top) check_app.top =
     c.in_ok-subcommand-3.ensures.shape (search rules) ∙ ap₂ with_subcommand with_plan (ap (λ (a : App). a.top) check_is) in
-    IfOk-weaker c.subcommand-4.result _ _ (λ command adds. adds.shape (search rules)
-    ∙ ap₂ with_subcommand with_check (ap (λ (a : App). a.top) replay_is)) c.subcommand-4.ensures
+    let run_is : app_of c.in_ok-run.field-0 ≡ run_app = c.in_ok-run.ensures.app in
+    let with_replay : app_of c.in_ok-subcommand-4.field-0
+    ≡ with_subcommand (with_subcommand (with_subcommand (with_subcommand program_app verify_app.top) plan_app.top) check_app.top) replay_app.top =
+    c.in_ok-subcommand-4.ensures.shape (search rules) ∙ ap₂ with_subcommand with_check (ap (λ (a : App). a.top) replay_is) in
+    IfOk-weaker c.subcommand-5.result _ _ (λ command adds. adds.shape (search rules)
+    ∙ ap₂ with_subcommand with_replay (ap (λ (a : App). a.top) run_is)) c.subcommand-5.ensures

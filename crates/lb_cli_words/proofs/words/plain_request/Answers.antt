@@ -18,6 +18,10 @@ pub returns-in-check : goal.returns-in-check
 unfolding clap_on_literals
 returns-in-check c = refl
 
+pub returns-in-run : goal.returns-in-run
+unfolding clap_on_literals
+returns-in-run c = refl
+
 pub returns-in_default : goal.returns-in_default
 unfolding clap_on_literals
 returns-in_default c = refl

@@ -1,18 +1,23 @@
-use Rattle.std.proofs.Common.{sym, []}
+use Rattle.std.proofs.Common.{arith, []}
+use Rattle.http_relay_body.specs.declared.chunks.part.Part.TheVariants.{DataEnd}
 use Rattle.http_relay_body.specs.Moves.{IsLong}
-use Rattle.http_relay_body.proofs.Moves.{take_nothing, append_nothing, fault_handed}
-use Rattle.http_relay_body.specs.Parts.{IsLineEnd, IsDataText}
-use Rattle.http_relay_body.proofs.Handed.{then_moved}
+use Rattle.http_relay_body.specs.Parts.{IsDataText, IsPartText}
 use Rattle.http_relay_body.proofs.Parts.{first_data, join_data, skip_data}
+use Rattle.http_relay_body.proofs.Rooms.{carry_nothing, handed_later, passed_later}
 use Rattle.http_relay_body.proofs.chunks.data.pass_data.Goals as goal
 
-pub returns-in_err-pass-clause-moved : goal.returns-in_err-pass-clause-moved
-returns-in_err-pass-clause-moved g c =
-    fault_handed (IsDataText c.args.size) (IsLong c.args.size) _ _ _ _ _ _ _ _ _ _ _ [] c.from_residual.ensures.1 (take_nothing _ _) (sym (append_nothing _))
-    (first_data c.args.size) c.in_err-pass.ensures.moved
+pub returns-in_err-pass_bytes-clause-passed : goal.returns-in_err-pass_bytes-clause-passed
+returns-in_err-pass_bytes-clause-passed g c =
+    handed_later (IsDataText c.args.size) (IsLong c.args.size) _ _ _ [] _ _ c.from_residual.ensures.1 (carry_nothing _) (first_data c.args.size) c.in_err-pass_bytes.ensures.passed
 
-pub returns-clause-moved : goal.returns-clause-moved
-returns-clause-moved g c =
-    let front = c.in_ok-pass.ensures.moved in
-    then_moved (IsDataText c.args.size) IsLineEnd _ _ _ _ _ _ _ _ _ c.pass_line_end.result front.text front.taken front.sent
-    (λ value rest. join_data value c.args.size front.text rest front.answers) (λ rest. skip_data c.args.size front.text rest front.answers) c.pass_line_end.ensures.moved
+pub returns-in_err-pass_part-clause-passed : goal.returns-in_err-pass_part-clause-passed
+returns-in_err-pass_part-clause-passed g c =
+    let front = c.in_ok-pass_bytes.ensures.passed in
+    handed_later (IsDataText c.args.size) (IsPartText DataEnd) _ _ _ front.0 _ _ c.from_residual-in_err-pass_part.ensures.1 front.2
+    (λ rest begins. let end = skip_data c.args.size front.0 rest front.1 begins in (0, end.1, end.2, end.3, end.4)) c.in_err-pass_part.ensures.passed
+
+pub returns-clause-passed : goal.returns-clause-passed
+returns-clause-passed g c =
+    let front = c.in_ok-pass_bytes.ensures.passed in
+    passed_later (IsDataText c.args.size) (IsPartText DataEnd) _ _ _ front.0 (tt {0}) c.in_ok-pass_part.field-0 front.2
+    (λ rest end. join_data (tt {0}) c.args.size front.0 rest front.1 end) c.in_ok-pass_part.ensures.passed

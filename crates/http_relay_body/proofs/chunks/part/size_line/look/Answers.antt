@@ -1,0 +1,8 @@
+use Rattle.std.proofs.Common.{arith}
+use Rattle.http_relay_body.proofs.Sights.{long_size}
+use Rattle.http_relay_body.proofs.chunks.part.size_line.look.Goals as goal
+
+pub returns-in_default : goal.returns-in_default
+returns-in_default c =
+    let found = rw c.in-Ok-Complete.field-0-is at c.in-Ok-Complete.ensures.complete in
+    long_size c.args.text.now _ _ found.0 found.1 (omega (arith, c.if-len-le-MOST_LINE_BYTES.false, c.in-Ok-Complete.len-is))

@@ -1,0 +1,82 @@
+ghost use Rattle.std.specs.Prelude.{◌≡◌, ◌*◌, ◌≤◌, ◌<◌, ℕ, List, ◌++◌, length};
+ghost use Rattle.httparse.specs.Grammar.{HasNoChunkLine};
+ghost use Rattle.http_relay_body.specs.Parts.{IsSizeText, least_behind_size};
+ghost use Rattle.http_relay_body.specs.Rooms.{MustFollow, Sees};
+ghost use Rattle.http_relay_body.specs.declared.chunks.part.Part.TheVariants.{SizeLine};
+
+use crate::chunks::part::Sight;
+use crate::chunks::room::ROOM;
+use httparse::{Status, parse_chunk_size, parse_hex_digit};
+
+/// The most bytes that a size line may have, its line end included.
+const MOST_LINE_BYTES: usize = 256;
+
+/// The bytes of the shortest chunked body: `0` CR LF, and a trailer of one line feed.
+const LEAST_BODY_BYTES: usize = 4;
+
+/// Looks for a size line at the front of this text.
+pub(crate) fn look(text: &[u8]) -> Sight
+    ensures { Sees SizeLine text.now result }
+{
+    match parse_chunk_size(text) {
+        Ok(Status::Complete((len, size))) if len <= MOST_LINE_BYTES => Sight::Whole(len, size),
+        Ok(Status::Partial) => look_short(text),
+        _ => Sight::Bad,
+    }
+}
+
+/// Says how many bytes must come behind this text, in which no size line was seen.
+fn look_short(text: &[u8]) -> Sight
+    requires { HasNoChunkLine text.now }
+    ensures { Sees SizeLine text.now result }
+{
+    if text.len() < MOST_LINE_BYTES {
+        return Sight::Short(least_to_come(text));
+    }
+    Sight::Bad
+}
+
+/// How many bytes at least must come behind the beginning of a size line.
+fn least_to_come(text: &[u8]) -> usize
+    requires { HasNoChunkLine text.now }
+    ensures some { 0 < result }
+    ensures least { MustFollow SizeLine text.now result }
+{
+    if text.is_empty() {
+        return LEAST_BODY_BYTES;
+    }
+    let behind = least_behind(least_size(text));
+    if text[text.len() - 1] == b'\r' {
+        return 1 + behind;
+    }
+    2 + behind
+}
+
+/// How many bytes at least must come behind a size line that tells this size.
+fn least_behind(size: usize) -> usize
+    requires { size ≤ 16 * ROOM }
+    ensures { result ≡ least_behind_size size }
+{
+    if size == 0 {
+        return 1;
+    }
+    size + 2 + LEAST_BODY_BYTES
+}
+
+/// A size that each line that begins so tells at least. It is the size that the digits so far tell, where that is less than a room's.
+fn least_size(text: &[u8]) -> usize
+    ensures within { result ≤ 16 * ROOM }
+    ensures least { (size : ℕ) (rest : List ℕ) → IsSizeText size (text.now ++ rest) → result ≤ size }
+{
+    let mut size: usize = 0;
+    for byte in text {
+        let Some(digit) = parse_hex_digit(*byte) else {
+            return size;
+        };
+        if size >= ROOM {
+            return size;
+        }
+        size = size * 16 + digit as usize;
+    }
+    size
+}

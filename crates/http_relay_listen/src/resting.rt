@@ -1,0 +1,25 @@
+use std::io::ErrorKind;
+use std::time::{Clock, Duration};
+use std::{io, thread};
+
+/// How many milliseconds nothing is accepted behind an error that may last.
+const REST_MILLIS: u64 = 10;
+
+/// Rests for 10 ms behind an error of an accept that may last, as too many open files, so that nobody spins on it. An accept that ended
+/// because nobody came, or whose client left at once, is followed by the next without a rest.
+pub fn rest_after<R: Clock>(rt: &R, error: &io::Error) {
+    if !passes(error) {
+        thread::sleep(rt, Duration::from_millis(REST_MILLIS));
+    }
+}
+
+/// Whether the next accept has nothing to do with this one's error.
+pub fn passes(error: &io::Error) -> bool {
+    matches!(
+        error.kind(),
+        ErrorKind::WouldBlock
+            | ErrorKind::TimedOut
+            | ErrorKind::Interrupted
+            | ErrorKind::ConnectionAborted
+    )
+}

@@ -1,0 +1,32 @@
+//! Jobs whose file breaks while it is read.
+
+use crate::broken::Broken;
+use lb_cli::{JobError, check, plan, plan_tables, sheet_for, verify, verify_for};
+use std::io::ErrorKind;
+use std::test::Fail;
+
+/// How a read fails, and how that is told.
+const BREAKS: [(ErrorKind, JobError); 2] = [
+    (ErrorKind::IsADirectory, JobError::CannotRead),
+    (ErrorKind::OutOfMemory, JobError::OutOfMemory),
+];
+
+#[test]
+fn a_file_that_breaks_can_not_be_read(rt: HostRuntime) -> Result<(), Fail> {
+    let mut text = b"stickysheet 1\nversion 0\nend\n".as_slice();
+    let sheet = sheet_for(rt.alloc(), &mut text, &mut Vec::new(rt.alloc()))?.ok_or("a sheet")?;
+    for (kind, error) in BREAKS {
+        let mut out = Vec::new(rt.alloc());
+        let told = [
+            verify(rt.alloc(), &mut Broken { kind }, &mut out).err(),
+            plan(rt.alloc(), &mut Broken { kind }, &mut out).err(),
+            check(rt.alloc(), &mut Broken { kind }, &mut out).err(),
+            plan_tables(rt.alloc(), &mut Broken { kind }, &mut out).err(),
+            sheet_for(rt.alloc(), &mut Broken { kind }, &mut out).err(),
+            verify_for(rt.alloc(), &sheet, &mut Broken { kind }, &mut out).err(),
+        ];
+        assert_eq!(rt; told, [Some(error); 6]);
+        assert!(rt; out.is_empty());
+    }
+    Ok(())
+}

@@ -1,0 +1,1 @@
+"""How tests/run reads cases and tries them."""
