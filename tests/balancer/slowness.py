@@ -25,7 +25,8 @@ def last_answer(client: Client) -> bytes:
 @case
 def six_hundred_silent_clients_and_a_hundred_that_drip_hold_up_nobody(farm: Farm) -> None:
     port = farm.port()
-    balancer = farm.start(listen(port, *LIMITS, server("a", farm.origin())), ("tune.relays 2",))
+    # Without a limit for clients, since a machine that is busy may take its time with so many.
+    balancer = farm.start(listen(port, *LIMITS[1:], server("a", farm.origin())), ("tune.relays 2",))
     with contextlib.ExitStack() as stack:
         silent = [stack.enter_context(Client(port)) for _ in range(600)]
         dripping = [stack.enter_context(Client(port)) for _ in range(100)]
