@@ -57,7 +57,8 @@ def clients_that_break_off_anywhere_do_no_harm_to_others(farm: Farm) -> None:
     before = balancer.descriptors()
     at_once(lambda number: stays(number) if number < 4 else breaks_off(number), range(8))
     wait_until("all descriptors are free again", lambda: balancer.descriptors() <= before + 1)
-    ends_well(balancer)
+    # Some who have left may be asked about behind this.
+    ends_well(balancer, checked=True)
 
 
 @case

@@ -6,7 +6,7 @@ import contextlib
 import time
 
 from .answers import own
-from .cases import case, expect, expect_equal, wait_until
+from .cases import case, expect, expect_equal
 from .clients import Client, ask
 from .farms import LIMITS, Farm, ends_well, listen, server
 from .origins import response
@@ -123,5 +123,6 @@ def those_who_wait_for_a_worker_are_served_in_the_end(farm: Farm) -> None:
         for place, client in enumerate(clients):
             if place % 3 != 2:
                 expect_equal("the answer", last_answer(client), (A, own(400))[place % 3])
-    wait_until("all are gone", lambda: balancer.events("web").count("close a -> closed a") >= 20)
+    # The one worker takes them in turn, so behind this answer it is done with all of them.
+    expect_equal("one behind all others", ask(port, GET), A)
     ends_well(balancer)
