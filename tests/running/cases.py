@@ -10,6 +10,7 @@ from typing import Any, Callable, Iterator, Mapping, Optional
 from running.trying import Case, Step
 
 VALID = "configuration is valid"
+IGNORED = " ignored"
 # How the faults of texts that are no plans begin: those have the numbers 40 to 43.
 TEXT_FAULTS = b"4"
 # What stands for the number of a copy in a text that is repeated.
@@ -33,10 +34,10 @@ class Source:
     def bad(self, why: str) -> BadCase:
         return BadCase(f"{self.path}: {self.kind} \"{self.table.get('name', '')}\": {why}")
 
-    def name(self, row: Optional[str] = None) -> str:
+    def name(self, row: Any = None) -> str:
         """Returns what the case is called: its place and its sentence, and the row where it is one of many."""
         sentence = f"{self.path.parent.name}/{self.path.name}: {self.get('name')}"
-        return sentence if row is None else f"{sentence}: {shortened(row)!r}"
+        return sentence if row is None else f"{sentence}: {shortened(repr(row))}"
 
     def get(self, key: str) -> Any:
         if key not in self.table:
@@ -109,17 +110,28 @@ def check_case(source: Source) -> Iterator[Case]:
 
 def check_texts(source: Source) -> Iterator[Case]:
     """Each row is a configuration, and its report but for the last line end."""
-    source.only("rows")
+    source.only("rows", "encoding")
     for text, report in source.get("rows"):
-        yield Case(source.name(text), [check_step(text.encode(), line(report))])
+        yield Case(source.name(text), [check_step(source.bytes_of(text), line(report))])
 
 
 def check_lines(source: Source) -> Iterator[Case]:
-    """Each row is a line below that of the section, and `valid` or its fault."""
-    source.only("section", "rows")
+    """Each row is a line below the text of each section, and `valid`, `WORDS ignored`, or its fault."""
+    source.only("section", "sections", "behind", "rows")
+    sections = source.table["sections"] if "sections" in source.table else [source.get("section")]
     for words, verdict in source.get("rows"):
-        report = VALID if verdict == "valid" else f"line 2: {verdict}"
-        yield Case(source.name(words), [check_step(source.text("section") + words.encode(), line(report))])
+        for section in sections:
+            text = section + words + source.table.get("behind", "")
+            report = line_report(section.count("\n") + 1, verdict)
+            yield Case(source.name(words if len(sections) == 1 else section + words), [check_step(text.encode(), report)])
+
+
+def line_report(number: int, verdict: str) -> bytes:
+    """Returns the report of a configuration where this is found of the line, and nothing of another one."""
+    if verdict == "valid":
+        return line(VALID)
+    told = line(f"line {number}: {verdict}")
+    return told + line(VALID) if verdict.endswith(IGNORED) else told
 
 
 def check_keywords(source: Source) -> Iterator[Case]:
