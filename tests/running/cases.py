@@ -301,6 +301,38 @@ def program_case(source: Source) -> Iterator[Case]:
     yield Case(source.name(), [expected_step(source, source.get("words"), files)])
 
 
+def program_jobs(source: Source) -> Iterator[Case]:
+    """Each row is words, and the names of the files that they name: one for each text, and no other file is there."""
+    source.only("texts", "called", "output", "status", "rows")
+    for words, *names in source.get("rows"):
+        texts = [source.bytes_of(text) for text in source.get("texts")]
+        if len(names) != len(texts):
+            raise source.bad(f"{words} names {len(names)} files of {len(texts)}")
+        step = Step(
+            words, dict(zip(names, texts)), source.text("output"), status=source.table.get("status", 0),
+            called=source.table.get("called"),
+        )
+        yield Case(source.name(words), [step])
+
+
+# The name that the program prints of itself, whatever its file is called.
+CALLED = "stickylb"
+
+
+def program_printed(source: Source) -> Iterator[Case]:
+    """Each row is words that ask for a text, and a part of what is printed."""
+    source.only("rows")
+    for words, part in source.get("rows"):
+        yield Case(source.name(words), [Step(words, output=None, output_has=part.encode(), called=CALLED)])
+
+
+def program_wrong(source: Source) -> Iterator[Case]:
+    """Each row is wrong words, and a part of what is told of them."""
+    source.only("rows")
+    for words, part in source.get("rows"):
+        yield Case(source.name(words), [Step(words, errors=None, errors_has=part.encode(), status=2, called=CALLED)])
+
+
 Reader = Callable[[Source], Iterator[Case]]
 
 # The folders, and the kinds of tables that their files may have.
@@ -309,7 +341,7 @@ READERS: Mapping[str, Mapping[str, Reader]] = {
     "verify": {"case": verify_case, "texts": verify_texts},
     "plan": {"case": plan_case, "judged": plan_judged, "texts": plan_texts, "beginnings": plan_beginnings},
     "replay": {"case": replay_case, "lines": replay_lines, "bad": replay_bad, "bytes": replay_bytes},
-    "program": {"case": program_case},
+    "program": {"case": program_case, "jobs": program_jobs, "printed": program_printed, "wrong": program_wrong},
 }
 
 
