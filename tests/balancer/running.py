@@ -10,13 +10,13 @@ from concurrent.futures import ThreadPoolExecutor
 from dataclasses import dataclass
 from pathlib import Path
 
-from . import checks, commands, crowds, faults, forwarding, limits, operators, pins, queues, smuggling, soak, slow, starts
+from . import checks, commands, crowds, faults, forwarding, limits, operators, pins, queues, smuggling, soak, slow, starts, wholes
 from .cases import CASES, Case, Failure
 from .farms import Farm
 
 ROOT = Path(__file__).resolve().parent.parent.parent
 PROGRAM = ROOT / "crates" / "stickylb" / "out" / "stickylb"
-GROUPS = (checks, commands, crowds, faults, forwarding, limits, operators, pins, queues, smuggling, starts)
+GROUPS = (checks, commands, crowds, faults, forwarding, limits, operators, pins, queues, smuggling, starts, wholes)
 
 
 @dataclass
