@@ -2,7 +2,7 @@
 
 from __future__ import annotations
 
-from .answers import own
+from .answers import CONTINUE, own
 from .cases import case, expect, expect_equal
 from .clients import Client
 from .farms import LIMITS, Farm, ends_well, listen, server
@@ -38,6 +38,14 @@ REQUESTS = [
     # The largest head, which is 19 bytes longer when it goes on, and a larger one.
     (LONG + 16359 * b"x" + b"\r\n\r\n", LONG + 16359 * b"x" + b"\r\n" + CLOSE + b"\r\n"),
     (LONG + 16360 * b"x" + b"\r\n\r\n", b""),
+]  # fmt: skip
+
+# The same where the client is told to go on.
+EXPECTING = [
+    (
+        b"POST /e HTTP/1.1\r\nHost: x\r\nExpect: 100-continue\r\nContent-Length: 2\r\n\r\nhi",
+        b"POST /e HTTP/1.1\r\nHost: x\r\nContent-Length: 2\r\n" + CLOSE + b"\r\nhi",
+    ),
 ]  # fmt: skip
 
 # The same where the client's address is added.
@@ -86,14 +94,14 @@ def asked(port: int, data: bytes, sizes: tuple[int, ...]) -> bytes:
         return client.read_to_end()
 
 
-def try_requests(port: int, origin: Origin, server_side: Counting, rows: list[tuple[bytes, bytes]]) -> None:
+def try_requests(port: int, origin: Origin, server_side: Counting, rows: list[tuple[bytes, bytes]], answer: bytes = A) -> None:
     """Sends each request in each way, and compares what client and server get."""
     for sent, due in rows:
         for sizes in ((), (1,), (40, 7), (4000, 4000, 4000, 4000)):
             server_side.awaited = len(due)
             before = len(origin.talks)
             told = f"of {sent[:100]!r} in pieces of {sizes}"
-            expect_equal(f"the answer {told}", asked(port, sent, sizes), A if due else own(400))
+            expect_equal(f"the answer {told}", asked(port, sent, sizes), answer if due else own(400))
             received = origin.requests(before + bool(due))
             expect_equal(f"what the server got {told}", received[before:], [due] if due else [])
 
@@ -104,6 +112,7 @@ def a_server_gets_the_same_request_in_whatever_pieces_it_comes(farm: Farm) -> No
     origin, port = farm.origin(counting), farm.port()
     balancer = farm.start(listen(port, *LIMITS, server("a", origin)))
     try_requests(port, origin, counting, REQUESTS)
+    try_requests(port, origin, counting, EXPECTING, CONTINUE + A)
     ends_well(balancer)
 
 
