@@ -130,6 +130,7 @@ def a_body_at_its_limits_is_passed_on_and_of_one_beyond_a_beginning(farm: Farm) 
     counting = Counting()
     origin, port = farm.origin(counting), farm.port()
     balancer = farm.start(listen(port, *LIMITS, server("a", origin)))
+    tried = 0
     for front, middle, most, end in BODIES:
         for times in (most, most + 1):
             body = front + times * middle + end
@@ -138,7 +139,8 @@ def a_body_at_its_limits_is_passed_on_and_of_one_beyond_a_beginning(farm: Farm) 
                 counting.awaited = len(whole)
                 answer = asked(port, POST + CHUNKED + b"\r\n" + body + b"GET /", sizes)
                 told = f"{front!r} and {times} times {middle!r} in pieces of {sizes}"
-                received = origin.requests(len(origin.talks))[-1]
+                tried += 1
+                received = origin.requests(tried)[-1]
                 expect_equal(f"the answer to {told}", answer, A if times == most else own(400))
                 if times == most:
                     expect_equal(f"what the server got of {told}", received, whole)
