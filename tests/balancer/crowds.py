@@ -5,7 +5,7 @@ from __future__ import annotations
 import signal
 import threading
 
-from .answers import own
+from .answers import CONTINUE, own
 from .cases import case, expect, expect_equal, wait_until
 from .clients import Client, ask, at_once, get, is_refused
 from .farms import LIMITS, TABLE, Balancer, Farm, ends_well, listen, server
@@ -57,7 +57,8 @@ def clients_that_break_off_anywhere_do_no_harm_to_others(farm: Farm) -> None:
     before = balancer.descriptors()
     at_once(lambda number: stays(number) if number < 4 else breaks_off(number), range(8))
     wait_until("all descriptors are free again", lambda: balancer.descriptors() <= before + 1)
-    ends_well(balancer)
+    # Some who have left may be asked about behind this.
+    ends_well(balancer, checked=True)
 
 
 @case
@@ -104,6 +105,22 @@ def at_a_stop_fifty_requests_whose_head_was_read_are_finished(farm: Farm) -> Non
     expect_equal("the answers", [client.read_to_end() for client in clients], [A] * 50)
     ended = balancer.wait()
     expect_equal("the end", (ended.status, ended.out), (0, "closed web events 200 rising yes\n"))
+
+
+@case
+def of_two_workers_one_serves_others_while_a_body_is_kept_back(farm: Farm) -> None:
+    port = farm.port()
+    balancer = farm.start(
+        listen(port, *LIMITS, server("a", farm.origin(answers(b"a"))), server("b", farm.origin(answers(b"b")))),
+        ("tune.relays 2",),
+    )
+    with Client(port) as first:
+        first.send(b"POST / HTTP/1.1\r\nHost: x\r\nExpect: 100-continue\r\nContent-Length: 2\r\n\r\n")
+        expect_equal("leave to go on", first.read_bytes(len(CONTINUE)), CONTINUE)
+        expect_equal("the second client's answer", ask(port, GET), B)
+        first.send(b"hi")
+        expect_equal("the first client's answer", first.read_to_end(), A)
+    expect_equal("events", ends_well(balancer), {"web": 8})
 
 
 @case

@@ -9,6 +9,8 @@ import signal
 import socket
 import subprocess
 import tempfile
+import threading
+import time
 from dataclasses import dataclass
 from pathlib import Path
 
@@ -67,14 +69,10 @@ def open_slots(entries: list[Entry]) -> dict[str, int]:
 class Balancer:
     """A running program, under a configuration that lies in its folder."""
 
-    def __init__(self, program: Path, folder: Path, text: str, operators: Path | tuple[str, int]) -> None:
+    def __init__(self, process: subprocess.Popen[bytes], out: Path, err: Path, operators: Path | tuple[str, int]) -> None:
+        self.process = process
+        self.out, self.err = out, err
         self.operators = operators
-        self.out, self.err = folder / "out", folder / "err"
-        config = folder / "balancer.cfg"
-        config.write_text(text)
-        with self.out.open("wb") as out, self.err.open("wb") as err:
-            words = [str(program), "run", "-f", str(config)]
-            self.process = subprocess.Popen(words, stdin=subprocess.DEVNULL, stdout=out, stderr=err)
 
     def errors(self) -> str:
         """What was written to standard error so far."""
@@ -129,6 +127,26 @@ class Balancer:
         return pages * os.sysconf("SC_PAGE_SIZE")
 
 
+# Farms that have not ended yet, whether all are to end, and who may look at both.
+FARMS: set[Farm] = set()
+ENDING = threading.Event()
+TURN = threading.RLock()
+
+
+def end_all(number: int, _: object) -> None:
+    """Ends all farms, and then the program: what a signal to it does."""
+    with TURN:
+        ENDING.set()
+    for farm in list(FARMS):
+        with contextlib.suppress(Exception):
+            farm.stack.close()
+    # Tests that fail over it end their farms themselves, and have a while for it.
+    end = time.monotonic() + 3
+    while FARMS and time.monotonic() < end:
+        time.sleep(0.05)
+    os._exit(128 + number)
+
+
 class Farm:
     """What one test has: a folder, reserved ports, origins and balancers. All of it ends with the test."""
 
@@ -141,10 +159,14 @@ class Farm:
         self.balancers = 0
 
     def __enter__(self) -> Farm:
+        with TURN:
+            FARMS.add(self)
         return self
 
     def __exit__(self, *_: object) -> None:
         self.stack.close()
+        with TURN:
+            FARMS.discard(self)
 
     def port(self) -> int:
         """A port that nobody else gets while the test runs. Nobody listens there, so that connections to it are refused."""
@@ -164,19 +186,28 @@ class Farm:
         origin.open()
         return origin
 
+    def spawn(self, text: str, out: Path, err: Path) -> subprocess.Popen[bytes]:
+        """Starts the program under this configuration. It is killed with the farm, if it still runs."""
+        self.balancers += 1
+        config = self.folder / f"{self.balancers}.cfg"
+        config.write_text(text)
+        words = [str(self.program), "run", "-f", str(config)]
+        with out.open("wb") as to_out, err.open("wb") as to_err, TURN:
+            expect("the tests go on", not ENDING.is_set())
+            process = subprocess.Popen(words, stdin=subprocess.DEVNULL, stdout=to_out, stderr=to_err)
+            self.stack.callback(process.wait, PATIENCE)
+            self.stack.callback(process.kill)
+        return process
+
     def launch(self, sections: str, settings: tuple[str, ...] = (), operators: bool = True) -> Balancer:
         """Starts a balancer, and doesn't wait for it. With `operators` it has a command socket in the test's folder."""
-        self.balancers += 1
-        folder = self.folder / str(self.balancers)
-        folder.mkdir()
         lines = list(settings)
         if operators:
             place = self.operators if isinstance(self.operators, Path) else f"ipv4@{self.operators[0]}:{self.operators[1]}"
             lines.insert(0, f"stats socket {place}")
-        text = section("global", *lines) + sections
-        balancer = Balancer(self.program, folder, text, self.operators)
-        self.stack.callback(balancer.end)
-        return balancer
+        out, err = (self.folder / f"{self.balancers}.{word}" for word in ("out", "err"))
+        process = self.spawn(section("global", *lines) + sections, out, err)
+        return Balancer(process, out, err, self.operators)
 
     def start(self, sections: str, settings: tuple[str, ...] = (), operators: bool = True) -> Balancer:
         """Starts a balancer, and waits until it listens."""

@@ -4,15 +4,15 @@ from __future__ import annotations
 
 import contextlib
 import os
+import re
 import resource
 import socket
-import subprocess
 import threading
 from pathlib import Path
 
 from .answers import own
-from .cases import case, expect, expect_equal, wait_until
-from .clients import Client, ask, at_once, get, is_refused, operator_stream
+from .cases import PATIENCE, case, expect, expect_equal, wait_until
+from .clients import Client, ask, ask_operator, at_once, get, is_refused, operator_stream
 from .farms import HOST, LIMITS, TABLE, Balancer, Ending, Farm, ends_well, listen, server
 from .origins import Gate, answers, response
 from .replaying import replies_differ
@@ -28,34 +28,34 @@ def processor_seconds(balancer: Balancer) -> float:
 
 
 @case
-def too_many_open_files_end_nothing(farm: Farm) -> None:
+def too_many_open_files_end_nothing_and_silent_clients_keep_nobody_out(farm: Farm) -> None:
     port = farm.port()
     balancer = farm.start(listen(port, *LIMITS, server("a", farm.origin())), ("tune.relays 4",))
     most = balancer.descriptors() + 8
     resource.prlimit(balancer.process.pid, resource.RLIMIT_NOFILE, (most, most))
     with contextlib.ExitStack() as stack:
         clients = [stack.enter_context(Client(port)) for _ in range(30)]
-        # The system keeps one in reserve for each accept that waits.
-        wait_until("all its descriptors are in use", lambda: balancer.descriptors() >= most - 1)
         before = processor_seconds(balancer)
         threading.Event().wait(1)
         expect("it rests meanwhile", processor_seconds(balancer) - before < 0.5)
-        # One more may come where one goes, and all are answered in the end.
+        wait_until("another one is served", lambda: ask(port, GET) == A)
         for client in clients:
-            client.send(b"GET / HTTP/1.1\r\nHost: x\r\n\r\n")
-            expect("it is answered", client.read_to_end() in (A, own(503)))
+            client.send_what_is_taken(GET)
+            # Silent clients may be let go as if their limit were over, and a dial may find no descriptor.
+            expect("it is answered", client.read_to_end() in (A, own(408), own(503)))
             client.stream.close()
-    wait_until("the last descriptors are free", lambda: balancer.descriptors() < most - 4)
+    wait_until("descriptors are free again", lambda: balancer.descriptors() < most - 4)
     expect_equal("the answer to another client", ask(port, GET), A)
     ends_well(balancer)
 
 
 @case
-def fifteen_hundred_clients_wait_for_one_worker(farm: Farm) -> None:
+def more_clients_than_its_line_holds_wait_for_one_worker(farm: Farm) -> None:
     gate, port = Gate(answers(b"a")), farm.port()
     balancer = farm.start(listen(port, *LIMITS, server("a", farm.origin(gate))), ("tune.relays 1",))
     with contextlib.ExitStack() as stack:
-        clients = [stack.enter_context(Client(port)) for _ in range(1500)]
+        # 1,024 wait in the line, and the others as the system has it.
+        clients = [stack.enter_context(Client(port)) for _ in range(1100)]
         for client in clients:
             client.send(GET)
         gate.wait_for(1)
@@ -64,7 +64,7 @@ def fifteen_hundred_clients_wait_for_one_worker(farm: Farm) -> None:
         for client in clients:
             expect_equal("the answer", client.read_to_end(), A)
             client.stream.close()
-    expect_equal("events", ends_well(balancer), {"web": 6000})
+    expect_equal("events", ends_well(balancer), {"web": 4400})
 
 
 @case
@@ -129,37 +129,30 @@ def a_long_path_and_a_file_beside_the_socket_are_told(farm: Farm) -> None:
     expect_equal("the file", beside.read_text(), "precious")
 
 
+FULL = Path("/dev/full")
+
+
 @case
 def an_end_that_cannot_be_told_is_no_good_end(farm: Farm) -> None:
-    port, config, at = farm.port(), farm.folder / "full.cfg", farm.folder / "operators"
-    config.write_text(f"global\n  stats socket {at}\n" + listen(port, *LIMITS, server("a", farm.origin())))
-    with open("/dev/full", "wb") as full:
-        process = subprocess.Popen([str(farm.program), "run", "-f", str(config)], stdout=full, stderr=subprocess.PIPE, text=True)
-    farm.stack.callback(process.kill)
+    port, at, err = farm.port(), farm.folder / "operators", farm.folder / "told"
+    process = farm.spawn(f"global\n  stats socket {at}\n" + listen(port, *LIMITS, server("a", farm.origin())), FULL, err)
     wait_until("it listens", lambda: not is_refused(port))
     expect_equal("the answer", ask(port, GET), A)
-    with operator_stream(at) as stream:
-        stream.sendall(b"stop\n")
-        expect_equal("the answer to `stop`", stream.recv(10), b"\n")
-    _, told = process.communicate(timeout=30)
-    expect_equal("the end", (process.returncode, told.splitlines()[-1]), (1, "cannot write"))
+    expect_equal("the answer to `stop`", ask_operator(at, b"stop\n"), b"\n")
+    expect_equal("the status", process.wait(PATIENCE), 1)
+    expect_equal("what is told", err.read_text().splitlines()[1:], ["cannot write"])
 
 
 @case
 def a_balancer_whose_complaints_nobody_takes_runs_on(farm: Farm) -> None:
-    port, config, at = farm.port(), farm.folder / "full.cfg", farm.folder / "operators"
-    checked = server("a", farm.port(), "check inter 50ms fall 1")
-    config.write_text(f"global\n  stats socket {at}\n" + listen(port, *LIMITS, checked, server("b", farm.origin())))
-    with open("/dev/full", "wb") as full:
-        process = subprocess.Popen([str(farm.program), "run", "-f", str(config)], stdout=subprocess.PIPE, stderr=full, text=True)
-    farm.stack.callback(process.kill)
+    port, at, out = farm.port(), farm.folder / "operators", farm.folder / "told"
+    servers = (server("a", farm.port(), "check inter 50ms fall 1"), server("b", farm.origin()))
+    process = farm.spawn(f"global\n  stats socket {at}\n" + listen(port, *LIMITS, *servers), out, FULL)
     wait_until("it listens", lambda: not is_refused(port))
     wait_until("a is down", lambda: all(ask(port, GET) == A for _ in range(4)))
-    with operator_stream(at) as stream:
-        stream.sendall(b"stop\n")
-    told, _ = process.communicate(timeout=30)
-    expect_equal("the status", process.returncode, 0)
-    expect("the end is told", told.startswith("closed web events ") and told.endswith(" rising yes\n"))
+    expect_equal("the answer to `stop`", ask_operator(at, b"stop\n"), b"\n")
+    expect_equal("the status", process.wait(PATIENCE), 0)
+    expect("the end is told", re.fullmatch(r"closed web events \d+ rising yes\n", out.read_text()) is not None)
 
 
 @case

@@ -3,6 +3,8 @@
 from __future__ import annotations
 
 import argparse
+import resource
+import signal
 import sys
 import time
 import traceback
@@ -10,13 +12,13 @@ from concurrent.futures import ThreadPoolExecutor
 from dataclasses import dataclass
 from pathlib import Path
 
-from . import checks, commands, crowds, faults, forwarding, limits, operators, pins, queues, smuggling, soak, slow, starts, wholes
+from . import checks, commands, crowds, faults, forwarding, limits, operators, pins, queues, slow, slowness, smuggling, soak, starts, wholes
 from .cases import CASES, Case, Failure
-from .farms import Farm
+from .farms import Farm, end_all
 
 ROOT = Path(__file__).resolve().parent.parent.parent
 PROGRAM = ROOT / "crates" / "stickylb" / "out" / "stickylb"
-GROUPS = (checks, commands, crowds, faults, forwarding, limits, operators, pins, queues, smuggling, starts, wholes)
+GROUPS = (checks, commands, crowds, faults, forwarding, limits, operators, pins, queues, slowness, smuggling, starts, wholes)
 
 
 @dataclass
@@ -72,7 +74,16 @@ def words() -> argparse.Namespace:
     return parser.parse_args()
 
 
+def use_all_descriptors() -> None:
+    """Clients and servers of all tests are sockets of this program, and it has as many as the system lets it."""
+    _, most = resource.getrlimit(resource.RLIMIT_NOFILE)
+    resource.setrlimit(resource.RLIMIT_NOFILE, (most, most))
+
+
 def main() -> int:
+    use_all_descriptors()
+    for ending in (signal.SIGINT, signal.SIGTERM, signal.SIGHUP):
+        signal.signal(ending, end_all)
     said = words()
     jobs = [word for word in said.words if word in ("soak", "slow")]
     programs = [word for word in said.words if word not in ("soak", "slow")]

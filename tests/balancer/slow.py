@@ -3,7 +3,6 @@
 from __future__ import annotations
 
 import contextlib
-import resource
 import socket
 import threading
 import time
@@ -122,8 +121,6 @@ def tell(what: str, times: list[float], lost: int) -> float:
 def run(program: Path) -> int:
     """Compares the same load without slow clients and beside them. The status is 0 where nothing is lost, and 99 of 100 requests take at
     most twice as long beside them."""
-    _, most = resource.getrlimit(resource.RLIMIT_NOFILE)
-    resource.setrlimit(resource.RLIMIT_NOFILE, (most, most))
     with Farm(program) as farm:
         origin = Origin(farm.port(), answers(b"a"), keeps=False)
         origin.open()

@@ -3,7 +3,7 @@ use crossbeam_channel::Receiver;
 use http_relay_listen::listen;
 use http_relay_lobby::{Arrival, MAX_WAITING, gather_until_stopped, waiting_line};
 use std::cell::Cell;
-use std::io::{Error, ErrorKind, Read};
+use std::io::{Error, ErrorKind, Read, Write};
 use std::net::{Ipv4Addr, OpenListener, OpenStream, SocketAddr, SocketAddrV4, TcpListener};
 use std::os::fd::{AsRawFd, RawFd};
 use std::sync::atomic::{AtomicBool, Ordering};
@@ -26,6 +26,16 @@ impl Read for Scripted {
         let count = REQUEST.len().min(buffer.len());
         buffer[..count].copy_from_slice(&REQUEST[..count]);
         Ok(count)
+    }
+}
+
+impl Write for Scripted {
+    fn write(&mut self, bytes: &[u8]) -> io::Result<usize> {
+        Ok(bytes.len())
+    }
+
+    fn flush(&mut self) -> io::Result<()> {
+        Ok(())
     }
 }
 

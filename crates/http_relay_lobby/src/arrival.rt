@@ -50,8 +50,8 @@ impl<S: Drop> Arrival<S> {
         }
     }
 
-    /// The same connection, of which these bytes more were read. The error is want of memory: then it is closed.
-    pub fn with_read(self, bytes: &[u8]) -> Result<Self, AllocError>
+    /// The same connection, of which these bytes more were read. The error is want of memory, and hands the stream back.
+    pub fn with_read(self, bytes: &[u8]) -> Result<Self, S>
         requires { vec_len self.head + length bytes.now ≤ HEAD_ROOM }
         ensures head { IfOk result (λ arrival. arrival.head.items ≡ self.head.items ++ bytes.now) }
         ensures stream { IfOk result (λ arrival. arrival.stream ≡ self.stream) }
@@ -67,7 +67,9 @@ impl<S: Drop> Arrival<S> {
             failed,
         } = self;
         let mut head = head;
-        head.extend_from_slice(bytes)?;
+        if head.extend_from_slice(bytes).is_err() {
+            return Err(stream);
+        }
         Ok(Arrival {
             stream,
             source,

@@ -5,7 +5,7 @@ use http_relay_head::HEAD_ROOM;
 use mio::unix::SourceFd;
 use mio::{Events, Interest, Poll, Token};
 use std::alloc::Global;
-use std::io::Read;
+use std::io::{Read, Write};
 use std::net::{Net, OpenListener, OpenStream};
 use std::os::fd::AsRawFd;
 use std::sync::Wait;
@@ -54,7 +54,7 @@ pub fn gather_until_stopped<R, L>(
 where
     R: Net + Wait + Clock,
     L: OpenListener + AsRawFd + Drop,
-    L::Stream: Read + OpenStream + AsRawFd,
+    L::Stream: Read + Write + OpenStream + AsRawFd,
 {
     let mut watch = Watch::new(rt, alloc)?;
     let mut lobby = Lobby::new(alloc, rules, to)?;
@@ -109,7 +109,7 @@ impl Watch {
     ) -> Option<u64>
     where
         R: Wait + Clock,
-        S: Read + OpenStream + AsRawFd + Drop,
+        S: Read + Write + OpenStream + AsRawFd + Drop,
     {
         lobby.line.flush(rt);
         let most = self.most_wait(lobby.line.is_clear(), accepts);
@@ -147,7 +147,7 @@ impl Watch {
     )
     where
         R: Wait,
-        S: Read + OpenStream + AsRawFd + Drop,
+        S: Read + Write + OpenStream + AsRawFd + Drop,
     {
         for event in self.events.iter() {
             let Token(number) = event.token();
@@ -171,7 +171,7 @@ impl Watch {
     where
         R: Wait + Clock,
         L: OpenListener,
-        L::Stream: Read + OpenStream + AsRawFd,
+        L::Stream: Read + Write + OpenStream + AsRawFd,
     {
         if self.next == Next::Idle {
             return;

@@ -25,8 +25,8 @@ pub(crate) enum Heard<S> {
     Stays(Guest<S>),
     /// A worker may judge it.
     Leaves(Arrival<S>),
-    /// There is no memory for its bytes.
-    Lost,
+    /// There is no memory for its bytes. This was its stream.
+    Lost(S),
 }
 
 /// What one read says.
@@ -36,7 +36,7 @@ enum Step<S> {
     /// There is nothing to read now.
     Waits(Guest<S>),
     Leaves(Arrival<S>),
-    Lost,
+    Lost(S),
 }
 
 impl<S: Read + Drop> Guest<S> {
@@ -54,7 +54,7 @@ impl<S: Read + Drop> Guest<S> {
         match self.step(room) {
             Step::Again(guest) | Step::Waits(guest) => Heard::Stays(guest),
             Step::Leaves(arrival) => Heard::Leaves(arrival),
-            Step::Lost => Heard::Lost,
+            Step::Lost(stream) => Heard::Lost(stream),
         }
     }
 
@@ -66,7 +66,7 @@ impl<S: Read + Drop> Guest<S> {
                 Step::Again(same) => guest = same,
                 Step::Waits(same) => return Heard::Stays(same),
                 Step::Leaves(arrival) => return Heard::Leaves(arrival),
-                Step::Lost => return Heard::Lost,
+                Step::Lost(stream) => return Heard::Lost(stream),
             }
         }
         Heard::Leaves(guest.failed(WireFault::Broken))
@@ -101,8 +101,9 @@ impl<S: Read + Drop> Guest<S> {
             heard,
         } = self;
         let search = search.behind(bytes);
-        let Ok(arrival) = arrival.with_read(bytes) else {
-            return Step::Lost;
+        let arrival = match arrival.with_read(bytes) {
+            Ok(arrival) => arrival,
+            Err(stream) => return Step::Lost(stream),
         };
         if search == Search::Found || arrival.room_left() == 0 {
             return Step::Leaves(arrival);

@@ -3,6 +3,14 @@ use lru::LruCache;
 use std::alloc::{AllocError, Global};
 use std::num::NonZeroUsize;
 
+/// Who leaves where a guest is let in.
+pub(crate) enum Leaver<S> {
+    /// The one that wasn't heard of for longest, since there are too many.
+    Oldest(Guest<S>),
+    /// The one that was to be let in, since there is no memory for it.
+    Newest(Guest<S>),
+}
+
 /// The connections whose heads aren't whole, by the numbers under which the system reports them, in the order in which they were last
 /// heard of. No number comes twice, so a late report of one that left is of none that stays.
 #[derive(Drop)]
@@ -23,13 +31,12 @@ impl<S: Drop> Guests<S> {
         self.by_number.len()
     }
 
-    /// Lets a guest in that was just heard of. The one that wasn't heard of for longest leaves where there are too many; this one does
-    /// where there is no memory.
-    pub(crate) fn let_in(&mut self, number: usize, guest: Guest<S>) -> Option<Guest<S>> {
+    /// Lets a guest in that was just heard of, and tells who leaves for it.
+    pub(crate) fn let_in(&mut self, number: usize, guest: Guest<S>) -> Option<Leaver<S>> {
         match self.by_number.push(number, guest) {
             Ok(None) => None,
-            Ok(Some((_, oldest))) => Some(oldest),
-            Err(failed) => Some(failed.value.1),
+            Ok(Some((_, oldest))) => Some(Leaver::Oldest(oldest)),
+            Err(failed) => Some(Leaver::Newest(failed.value.1)),
         }
     }
 

@@ -14,6 +14,7 @@ mod guest;
 mod guests;
 mod line;
 mod lobby;
+mod refusing;
 mod search;
 
 pub use arrival::{Arrival, MAX_WAITING, waiting_line};

@@ -1,7 +1,9 @@
 use crate::Arrival;
+use crate::refusing::refuse;
 use crossbeam_channel::{Sender, TrySendError};
 use std::alloc::Global;
 use std::collections::VecDeque;
+use std::io::{Read, Write};
 use std::sync::Wait;
 
 /// The end of the line at which connections are handed on. Nobody waits here: what the line has no room for is kept.
@@ -30,15 +32,21 @@ impl<S: Drop> Line<S> {
     pub(crate) fn has_ended(&self) -> bool {
         self.has_ended
     }
+}
 
-    /// Hands the connection on, behind those that are kept. One that there is no memory for is closed.
+impl<S: Read + Write + Drop> Line<S> {
+    /// Hands the connection on, behind those that are kept. One that there is no memory for is refused.
     pub(crate) fn put<R: Wait>(&mut self, rt: &R, arrival: Arrival<S>) {
         if !self.kept.is_empty() {
-            let _ = self.kept.push_back(arrival);
-            return;
+            self.keep(arrival);
+        } else if let Some(arrival) = self.send(rt, arrival) {
+            self.keep(arrival);
         }
-        if let Some(arrival) = self.send(rt, arrival) {
-            let _ = self.kept.push_back(arrival);
+    }
+
+    fn keep(&mut self, arrival: Arrival<S>) {
+        if let Err(failed) = self.kept.push_back(arrival) {
+            refuse(failed.value.stream);
         }
     }
 
@@ -64,7 +72,10 @@ impl<S: Drop> Line<S> {
                 self.has_ended = true;
                 None
             }
-            Err(TrySendError::OutOfMemory(_)) => None,
+            Err(TrySendError::OutOfMemory(arrival)) => {
+                refuse(arrival.stream);
+                None
+            }
         }
     }
 }

@@ -1,7 +1,8 @@
 use crate::Arrival;
 use crate::guest::{Guest, Heard};
-use crate::guests::Guests;
+use crate::guests::{Guests, Leaver};
 use crate::line::Line;
+use crate::refusing::refuse;
 use crossbeam_channel::Sender;
 use http_relay_head::HEAD_ROOM;
 use http_relay_listen::passes;
@@ -11,7 +12,7 @@ use mio::unix::SourceFd;
 use mio::{Interest, Registry, Token};
 use std::alloc::{AllocError, Global};
 use std::io;
-use std::io::{ErrorKind, Read};
+use std::io::{ErrorKind, Read, Write};
 use std::net::{OpenListener, OpenStream, SocketAddr};
 use std::os::fd::AsRawFd;
 use std::sync::Wait;
@@ -61,7 +62,7 @@ pub(crate) struct Lobby<S: Drop> {
     next_number: usize,
 }
 
-impl<S: Read + OpenStream + AsRawFd + Drop> Lobby<S> {
+impl<S: Read + Write + OpenStream + AsRawFd + Drop> Lobby<S> {
     pub(crate) fn new(
         alloc: Global,
         rules: Rules,
@@ -146,7 +147,7 @@ impl<S: Read + OpenStream + AsRawFd + Drop> Lobby<S> {
         match Guest::new(arrival, now).read_once(room) {
             Heard::Stays(guest) => self.invite(rt, registry, guest),
             Heard::Leaves(arrival) => self.hand_on(rt, arrival),
-            Heard::Lost => {}
+            Heard::Lost(stream) => refuse(stream),
         }
     }
 
@@ -168,8 +169,10 @@ impl<S: Read + OpenStream + AsRawFd + Drop> Lobby<S> {
     /// Lets a guest in that was just heard of. Where there are too many the oldest one goes to a worker, as one that was silent for too
     /// long.
     fn let_in<R: Wait>(&mut self, rt: &R, registry: &Registry, number: usize, guest: Guest<S>) {
-        if let Some(oldest) = self.guests.let_in(number, guest) {
-            self.dismiss(rt, registry, oldest);
+        match self.guests.let_in(number, guest) {
+            None => {}
+            Some(Leaver::Oldest(oldest)) => self.dismiss(rt, registry, oldest),
+            Some(Leaver::Newest(guest)) => refuse(guest.arrival.stream),
         }
     }
 
@@ -195,7 +198,7 @@ impl<S: Read + OpenStream + AsRawFd + Drop> Lobby<S> {
                 let _ = registry.deregister(&mut SourceFd(&descriptor));
                 self.hand_on(rt, arrival);
             }
-            Heard::Lost => {}
+            Heard::Lost(stream) => refuse(stream),
         }
     }
 

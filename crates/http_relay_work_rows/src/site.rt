@@ -72,7 +72,8 @@ pub(crate) fn arrival(
     if head.len() > arrival.room_left() {
         return Ok(None);
     }
-    Ok(Some(arrival.with_read(head)?))
+    let arrival = arrival.with_read(head).ok().ok_or("room for a head")?;
+    Ok(Some(arrival))
 }
 
 /// All that the client gets until the connection is closed or reset, within five seconds.
