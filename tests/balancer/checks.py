@@ -139,7 +139,8 @@ def statuses_of_200_to_399_keep_a_server_up_and_others_take_it_down(farm: Farm) 
     wait_until("it is checked", lambda: len(origin.seen) >= 2)
     rows = [
         (b"HTTP/1.1 500 Oops\r\n\r\n", "DOWN"), (b"HTTP/1.1 200 OK\r\n\r\n", "UP"), (b"HTTP/1.1 400 Bad\r\n\r\n", "DOWN"),
-        (b"HTTP/1.1 399 Odd\r\n\r\n", "UP"),
+        (b"HTTP/1.1 399 Odd\r\n\r\n", "UP"), (b"HTTP/1.0 400 No Content\r\n\r\n", "DOWN"),
+        (b"HTTP/1.0 204 No Content\r\n\r\n", "UP"),
         (b"HTTP/1.1 199 Odd\r\n\r\n", "DOWN"), (b"HTTP/1.0 301 Moved\r\nLocation: /\r\n\r\nbody", "UP"),
         (b"HTTP/1.0 204 No Content\r\n", "DOWN"), (b"HTTP/1.0 204\r\n\r\n", "UP"),
         (b"", "DOWN"), (b"HTTP/1.1 200 OK\n\n", "UP"), (b"nonsense\r\n\r\n", "DOWN"),

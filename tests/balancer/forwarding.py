@@ -75,6 +75,7 @@ ROWS: list[tuple[list[str], list[str], bytes, bool]] = [
         ["POST /e HTTP/1.1", "Host: x", "Expect: 100-continue", "Content-Length: 2"],
         ["POST /e HTTP/1.1", "Host: x", "Content-Length: 2", CLOSE], b"hi", True,
     ),  # fmt: skip
+    (["POST /e HTTP/1.1", "expect: 100-Continue", CHUNKED], ["POST /e HTTP/1.1", CHUNKED, CLOSE], b"0\r\n\r\n", True),
     (["POST /e HTTP/1.1", "expect: 100-Continue ", CHUNKED], ["POST /e HTTP/1.1", CHUNKED, CLOSE], SIXTEEN, True),
     (["POST /e HTTP/1.0", "Expect: 100-continue", "Content-Length: 2"], ["POST /e HTTP/1.0", "Content-Length: 2", CLOSE], b"hi", False),
     (["POST /e HTTP/1.1", "Expect: 100-continue", "Content-Length: 0"], ["POST /e HTTP/1.1", "Content-Length: 0", CLOSE], b"", False),

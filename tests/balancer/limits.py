@@ -6,6 +6,7 @@ import contextlib
 import os
 import re
 import resource
+import selectors
 import socket
 import threading
 from pathlib import Path
@@ -19,6 +20,23 @@ from .replaying import replies_differ
 
 A, B = response(b"a"), response(b"b")
 GET = b"GET / HTTP/1.1\r\nHost: x\r\n\r\n"
+
+
+def answers_as_they_come(clients: list[Client]) -> list[bytes]:
+    """The clients' answers, in whichever order they come. Each client leaves behind its own, as clients do, so that it holds up no worker."""
+    answered: dict[Client, bytes] = {}
+    with selectors.DefaultSelector() as waiting:
+        for client in clients:
+            waiting.register(client.stream, selectors.EVENT_READ, client)
+        while len(answered) < len(clients):
+            ready = waiting.select(PATIENCE)
+            expect("answers come", bool(ready))
+            for key, _ in ready:
+                client = key.data
+                answered[client] = client.read_to_end()
+                waiting.unregister(client.stream)
+                client.stream.close()
+    return [answered[client] for client in clients]
 
 
 def processor_seconds(balancer: Balancer) -> float:
@@ -61,9 +79,7 @@ def more_clients_than_its_line_holds_wait_for_one_worker(farm: Farm) -> None:
         gate.wait_for(1)
         expect_equal("operators are answered meanwhile", balancer.tell("show plan web"), "no plan\n\n")
         gate.open()
-        for client in clients:
-            expect_equal("the answer", client.read_to_end(), A)
-            client.stream.close()
+        expect_equal("the answers", answers_as_they_come(clients), [A] * 1100)
     expect_equal("events", ends_well(balancer), {"web": 4400})
 
 

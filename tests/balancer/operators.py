@@ -38,12 +38,20 @@ CHANGES = [
     ("set maxconn server web/a 0", "set maxconn server web/a 0"),
     ("set maxpins server web/a 16777216", "set maxpins server web/a 16777216"),
     ("set maxpins server web/a 0", "set maxpins server web/a 0"),
+    ("set weight web/a 7", "set weight web/a 7"),
+    ("set weight web/a 0007", "set weight web/a 7"),
+    ("set server web/a weight 7", "set weight web/a 7"),
+    ("set maxconn server web/a 7", "set maxconn server web/a 7"),
+    ("set maxpins server web/a 7", "set maxpins server web/a 7"),
 ]
 
 # Commands that the backend is asked for, and refuses.
 REFUSED = [
     ("set weight web/a 257", "set weight web/a 257", OUT_OF_RANGE),
     (f"set weight web/a {TWO_64 - 1}", f"set weight web/a {TWO_64 - 1}", OUT_OF_RANGE),
+    (f"set server web/a weight {TWO_64 - 1}", f"set weight web/a {TWO_64 - 1}", OUT_OF_RANGE),
+    (f"set maxconn server web/a {TWO_64 - 1}", f"set maxconn server web/a {TWO_64 - 1}", OUT_OF_RANGE),
+    (f"set maxpins server web/a {TWO_64 - 1}", f"set maxpins server web/a {TWO_64 - 1}", OUT_OF_RANGE),
     ("set server web/a weight 1000", "set weight web/a 1000", OUT_OF_RANGE),
     ("set maxconn server web/a 4294967296", "set maxconn server web/a 4294967296", OUT_OF_RANGE),
     ("set maxpins server web/a 16777217", "set maxpins server web/a 16777217", OUT_OF_RANGE),

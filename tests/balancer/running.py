@@ -12,13 +12,13 @@ from concurrent.futures import ThreadPoolExecutor
 from dataclasses import dataclass
 from pathlib import Path
 
-from . import checks, crowds, faults, forwarding, limits, operators, pins, queues, slow, slowness, smuggling, soak, starts
+from . import checks, commands, crowds, faults, forwarding, limits, operators, pins, queues, slow, slowness, smuggling, soak, starts, wholes
 from .cases import CASES, Case, Failure
 from .farms import Farm, end_all
 
 ROOT = Path(__file__).resolve().parent.parent.parent
 PROGRAM = ROOT / "crates" / "stickylb" / "out" / "stickylb"
-GROUPS = (checks, crowds, faults, forwarding, limits, operators, pins, queues, slowness, smuggling, starts)
+GROUPS = (checks, commands, crowds, faults, forwarding, limits, operators, pins, queues, slowness, smuggling, starts, wholes)
 
 
 @dataclass

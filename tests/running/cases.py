@@ -10,6 +10,7 @@ from typing import Any, Callable, Iterator, Mapping, Optional
 from running.trying import Case, Step
 
 VALID = "configuration is valid"
+IGNORED = " ignored"
 # How the faults of texts that are no plans begin: those have the numbers 40 to 43.
 TEXT_FAULTS = b"4"
 # What stands for the number of a copy in a text that is repeated.
@@ -33,10 +34,10 @@ class Source:
     def bad(self, why: str) -> BadCase:
         return BadCase(f"{self.path}: {self.kind} \"{self.table.get('name', '')}\": {why}")
 
-    def name(self, row: Optional[str] = None) -> str:
+    def name(self, row: Any = None) -> str:
         """Returns what the case is called: its place and its sentence, and the row where it is one of many."""
         sentence = f"{self.path.parent.name}/{self.path.name}: {self.get('name')}"
-        return sentence if row is None else f"{sentence}: {shortened(row)!r}"
+        return sentence if row is None else f"{sentence}: {shortened(repr(row))}"
 
     def get(self, key: str) -> Any:
         if key not in self.table:
@@ -109,17 +110,28 @@ def check_case(source: Source) -> Iterator[Case]:
 
 def check_texts(source: Source) -> Iterator[Case]:
     """Each row is a configuration, and its report but for the last line end."""
-    source.only("rows")
+    source.only("rows", "encoding")
     for text, report in source.get("rows"):
-        yield Case(source.name(text), [check_step(text.encode(), line(report))])
+        yield Case(source.name(text), [check_step(source.bytes_of(text), line(report))])
 
 
 def check_lines(source: Source) -> Iterator[Case]:
-    """Each row is a line below that of the section, and `valid` or its fault."""
-    source.only("section", "rows")
+    """Each row is a line below the text of each section, and `valid`, `WORDS ignored`, or its fault."""
+    source.only("section", "sections", "behind", "rows")
+    sections = source.table["sections"] if "sections" in source.table else [source.get("section")]
     for words, verdict in source.get("rows"):
-        report = VALID if verdict == "valid" else f"line 2: {verdict}"
-        yield Case(source.name(words), [check_step(source.text("section") + words.encode(), line(report))])
+        for section in sections:
+            text = section + words + source.table.get("behind", "")
+            report = line_report(section.count("\n") + 1, verdict)
+            yield Case(source.name(words if len(sections) == 1 else section + words), [check_step(text.encode(), report)])
+
+
+def line_report(number: int, verdict: str) -> bytes:
+    """Returns the report of a configuration where this is found of the line, and nothing of another one."""
+    if verdict == "valid":
+        return line(VALID)
+    told = line(f"line {number}: {verdict}")
+    return told + line(VALID) if verdict.endswith(IGNORED) else told
 
 
 def check_keywords(source: Source) -> Iterator[Case]:
@@ -289,6 +301,38 @@ def program_case(source: Source) -> Iterator[Case]:
     yield Case(source.name(), [expected_step(source, source.get("words"), files)])
 
 
+def program_jobs(source: Source) -> Iterator[Case]:
+    """Each row is words, and the names of the files that they name: one for each text, and no other file is there."""
+    source.only("texts", "called", "output", "status", "rows")
+    for words, *names in source.get("rows"):
+        texts = [source.bytes_of(text) for text in source.get("texts")]
+        if len(names) != len(texts):
+            raise source.bad(f"{words} names {len(names)} files of {len(texts)}")
+        step = Step(
+            words, dict(zip(names, texts)), source.text("output"), status=source.table.get("status", 0),
+            called=source.table.get("called"),
+        )
+        yield Case(source.name(words), [step])
+
+
+# The name that the program prints of itself, whatever its file is called.
+CALLED = "stickylb"
+
+
+def program_printed(source: Source) -> Iterator[Case]:
+    """Each row is words that ask for a text, and a part of what is printed."""
+    source.only("rows")
+    for words, part in source.get("rows"):
+        yield Case(source.name(words), [Step(words, output=None, output_has=part.encode(), called=CALLED)])
+
+
+def program_wrong(source: Source) -> Iterator[Case]:
+    """Each row is wrong words, and a part of what is told of them."""
+    source.only("rows")
+    for words, part in source.get("rows"):
+        yield Case(source.name(words), [Step(words, errors=None, errors_has=part.encode(), status=2, called=CALLED)])
+
+
 Reader = Callable[[Source], Iterator[Case]]
 
 # The folders, and the kinds of tables that their files may have.
@@ -297,7 +341,7 @@ READERS: Mapping[str, Mapping[str, Reader]] = {
     "verify": {"case": verify_case, "texts": verify_texts},
     "plan": {"case": plan_case, "judged": plan_judged, "texts": plan_texts, "beginnings": plan_beginnings},
     "replay": {"case": replay_case, "lines": replay_lines, "bad": replay_bad, "bytes": replay_bytes},
-    "program": {"case": program_case},
+    "program": {"case": program_case, "jobs": program_jobs, "printed": program_printed, "wrong": program_wrong},
 }
 
 

@@ -25,13 +25,19 @@ class Step:
     files: Mapping[str, bytes] = field(default_factory=dict)
     # What has to stand on standard output, or None where a later step judges that.
     output: Optional[bytes] = b""
-    errors: bytes = b""
+    # What has to stand on standard error, or None where only a part is told.
+    errors: Optional[bytes] = b""
     status: int = 0
     # A file of the folder that gets what the run writes on standard output.
     kept_as: Optional[str] = None
     # A device that gets standard output or standard error, in place of being compared.
     output_to: Optional[str] = None
     errors_to: Optional[str] = None
+    # Where nothing is told of the whole stream, a part that has to stand on standard output or on standard error.
+    output_has: bytes = b""
+    errors_has: bytes = b""
+    # The name that the program is called by, in place of its own.
+    called: Optional[str] = None
 
 
 @dataclass(frozen=True)
@@ -70,11 +76,12 @@ class Trial:
     def ran(self, step: Step, folder: str) -> Ran:
         for name, content in step.files.items():
             Path(folder, name).write_bytes(content)
-        words = [str(self.program), *step.words]
+        words = [step.called or str(self.program), *step.words]
         with target(step.output_to) as output, target(step.errors_to) as errors:
             try:
                 run = subprocess.run(
-                    words, cwd=folder, stdin=subprocess.DEVNULL, stdout=output, stderr=errors, timeout=LIMIT
+                    words, executable=str(self.program), cwd=folder, stdin=subprocess.DEVNULL, stdout=output, stderr=errors,
+                    timeout=LIMIT,
                 )
                 ran = Ran(run.stdout or b"", run.stderr or b"", run.returncode)
             except subprocess.TimeoutExpired as late:
@@ -95,8 +102,12 @@ def difference_lines(step: Step, ran: Ran) -> Iterator[str]:
         yield f"  {status}, and not {step.status}\n"
     if step.output is not None and ran.output != step.output:
         yield text_lines("standard output", step.output, ran.output)
-    if ran.errors != step.errors:
+    if step.errors is not None and ran.errors != step.errors:
         yield text_lines("standard error", step.errors, ran.errors)
+    if step.output_has not in ran.output:
+        yield part_lines("standard output", step.output_has, ran.output)
+    if step.errors_has not in ran.errors:
+        yield part_lines("standard error", step.errors_has, ran.errors)
 
 
 def text_lines(what: str, wanted: bytes, given: bytes) -> str:
@@ -105,6 +116,11 @@ def text_lines(what: str, wanted: bytes, given: bytes) -> str:
     line = wanted.count(b"\n", 0, at) + 1
     head = f"  {what} differs in line {line}"
     return f"{head}\n  expected:\n{shown(wanted)}  written:\n{shown(given)}"
+
+
+def part_lines(what: str, part: bytes, given: bytes) -> str:
+    """Returns a part of a text that isn't there, and the text, under headings."""
+    return f"  {what} lacks a part\n  expected:\n{shown(part)}  written:\n{shown(given)}"
 
 
 def shown(text: bytes) -> str:

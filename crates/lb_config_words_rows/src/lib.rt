@@ -1,14 +1,13 @@
-//! Words of configurations, limits of what lines declare, arguments, parameters, conditions, and lines with what each of them says.
+//! Words, arguments, parameters, conditions and settings of configurations, with the values that they are read as. What a whole
+//! text is answered stands in `tests/check/`.
 //!
-//! Tests alone, of `lb_config_words`, `_limits`, `_arguments`, `_parameters`, `_conditions`, `_keywords` and `_lines`.
+//! Tests alone, of `lb_config_words`, `_arguments`, `_parameters`, `_conditions` and `_lines`.
 #![tactic(auto)]
 
 #[cfg(test)]
 mod arguments;
 #[cfg(test)]
 mod conditions;
-#[cfg(test)]
-mod limits;
 #[cfg(test)]
 mod lines;
 #[cfg(test)]

@@ -1,4 +1,4 @@
-use lb_config_words::{Line, SpellingFault, TextFault, WordsFault, read_lines};
+use lb_config_words::{Line, SpellingFault, read_lines};
 use std::alloc::Global;
 use std::process::Abort;
 use std::test::Fail;
@@ -147,87 +147,4 @@ fn a_line_has_words_an_ending_and_a_number(rt: HostRuntime) -> Result<(), Fail> 
     expect_lines(&rt, rt.alloc(), &WHOLE)?;
     expect_lines(&rt, rt.alloc(), &BROKEN)?;
     expect_numbers(&rt, rt.alloc(), &NUMBERED)
-}
-
-/// As many times this.
-fn repeated(alloc: Global, part: &[u8], count: usize) -> Result<Vec<u8>, Fail> {
-    let mut text = Vec::new(alloc);
-    for _ in 0..count {
-        text.extend_from_slice(part)?;
-    }
-    Ok(text)
-}
-
-/// The number of lines, and of the last one its number, how many words it has, and its ending.
-fn counted(lines: &[Line]) -> (usize, u32, usize, Option<SpellingFault>) {
-    match lines.last() {
-        Some(last) => (
-            lines.len(),
-            last.number(),
-            last.words().len(),
-            last.ending(),
-        ),
-        None => (0, 0, 0, None),
-    }
-}
-
-const TOO_MANY: Option<SpellingFault> = Some(SpellingFault::TooManyWords);
-
-/// A part, how often it stands, what stands behind, and the lines as `counted` tells them.
-const LONG: [(
-    &[u8],
-    usize,
-    &[u8],
-    (usize, u32, usize, Option<SpellingFault>),
-); 17] = [
-    (b"w ", 63, b"w", (1, 1, 64, None)),
-    (b"w ", 64, b"", (1, 1, 64, None)),
-    (b"w ", 64, b"# w", (1, 1, 64, None)),
-    (b"w ", 64, b"w", (1, 1, 64, TOO_MANY)),
-    (b"w ", 64, b"''", (1, 1, 64, TOO_MANY)),
-    (b"w ", 64, b"'w", (1, 1, 64, TOO_MANY)),
-    (b"w ", 63, b"'w", (1, 1, 63, UNCLOSED)),
-    (b"w ", 200, b"w", (1, 1, 64, TOO_MANY)),
-    (b"\n", 1048576, b"", (0, 0, 0, None)),
-    (b"a", 1048576, b"", (1, 1, 1, None)),
-    (b"\"", 1048576, b"", (1, 1, 1, None)),
-    (b"'", 1048576, b"", (1, 1, 1, None)),
-    (b"\\", 1048576, b"", (1, 1, 1, None)),
-    (b" ", 1048576, b"", (0, 0, 0, None)),
-    (b"#", 1048576, b"", (0, 0, 0, None)),
-    (b"$", 1048576, b"", (1, 1, 1, None)),
-    (b"a\n", 524288, b"", (524288, 524288, 1, None)),
-];
-
-#[test]
-fn the_65th_word_and_the_longest_texts(rt: HostRuntime) -> Result<(), Fail> {
-    for (part, count, behind, wanted) in LONG {
-        let mut text = repeated(rt.alloc(), part, count)?;
-        text.extend_from_slice(behind)?;
-        let lines = lines_of(&rt, rt.alloc(), &text)?;
-        assert_eq!(rt; counted(&lines), wanted, "{part:?} {count} {behind:?}");
-    }
-    Ok(())
-}
-
-/// A part, how often it stands, and the fault. Length comes before UTF-8.
-const NO_TEXTS: [(&[u8], usize, TextFault); 8] = [
-    (b"\xff", 1, TextFault::NotUtf8(1)),
-    (b"a\nb\xc3", 1, TextFault::NotUtf8(2)),
-    (b"a\n\n\n\xe2\x82\nb", 1, TextFault::NotUtf8(4)),
-    (b"\xc0\x80", 1, TextFault::NotUtf8(1)),
-    (b"a\n\xed\xa0\x80", 1, TextFault::NotUtf8(2)),
-    (b"'\n\\x\n\xf5", 1, TextFault::NotUtf8(3)),
-    (b"\n", 1048577, TextFault::TooLong),
-    (b"\xff", 1048577, TextFault::TooLong),
-];
-
-#[test]
-fn a_text_that_is_too_long_or_no_text(rt: HostRuntime) -> Result<(), Fail> {
-    for (part, count, wanted) in NO_TEXTS {
-        let text = repeated(rt.alloc(), part, count)?;
-        let fault = read_lines(rt.alloc(), &text).err();
-        assert_eq!(rt; fault, Some(WordsFault::Text(wanted)), "{part:?} {count}");
-    }
-    Ok(())
 }
