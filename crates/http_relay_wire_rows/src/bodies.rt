@@ -200,7 +200,13 @@ fn a_client_that_ends_inside_its_body_is_cut_short(rt: HostRuntime) {
 fn a_chunk_costs_one_read_and_one_write(rt: HostRuntime) -> Result<(), Fail> {
     let content = [b'x'; 16000];
     for (line, size, end, reads, writes) in [
-        (b"3e8\r\n".as_slice(), 1000, b"0\r\n\r\n".as_slice(), 102, 101),
+        (
+            b"3e8\r\n".as_slice(),
+            1000,
+            b"0\r\n\r\n".as_slice(),
+            102,
+            101,
+        ),
         (b"3e8\r\n", 1000, b"0\r\n\n", 101, 100),
         (b"3e80\r\n", 16000, b"0\r\n\n", 101, 100),
     ] {
