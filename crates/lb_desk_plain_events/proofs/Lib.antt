@@ -1,3 +1,4 @@
 pub mod Expired
 pub mod Places
 pub mod Served
+pub mod Sharing
