@@ -125,7 +125,7 @@ fn serve_alone<S: BuildHasher, B: Naming, R: Runtime + Wait>(
     requests: u32,
 ) -> Result<()> {
     let job = Job::Serve(drawn_requests(alloc, 0, requests, pins)?);
-    let work = work(rt, alloc, desk, job).context("a call was refused")?;
+    let work = do_job(rt, alloc, desk, job).context("a call was refused")?;
     println!(rt; "alone: {} kept", work.kept)?;
     work.asks.tell(rt, "an Expire and a Serve")?;
     work.opens.tell(rt, "an Open")?;
@@ -147,7 +147,7 @@ where
 {
     let jobs = jobs(alloc, THREADS, pins, requests)?;
     let start = Instant::now(rt)?;
-    let works = map_vec(rt, jobs, &|job| work(rt, alloc, desk, job))?;
+    let works = map_vec(rt, jobs, &|job| do_job(rt, alloc, desk, job))?;
     let micros = start.elapsed(rt)?.as_micros();
     let mut kept: u64 = 0;
     for found in works {
@@ -180,7 +180,7 @@ where
 {
     let mut jobs = jobs(alloc, THREADS.saturating_sub(1), pins, requests)?;
     jobs.push(Job::Copy)?;
-    let works = map_vec(rt, jobs, &|job| work(rt, alloc, desk, job))?;
+    let works = map_vec(rt, jobs, &|job| do_job(rt, alloc, desk, job))?;
     let mut kept: u64 = 0;
     let mut copied: usize = 0;
     for found in works {
@@ -223,7 +223,7 @@ fn drawn_requests(
 }
 
 /// Does the job. None where a call was refused, or the clock can't be read.
-fn work<S: BuildHasher, B: Naming, R: Wait + Clock>(
+fn do_job<S: BuildHasher, B: Naming, R: Wait + Clock>(
     rt: &R,
     alloc: Global,
     desk: &SharedDesk<S, B>,

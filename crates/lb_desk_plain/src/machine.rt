@@ -100,7 +100,8 @@ impl Machine {
         requires version { self.old.version < 2 ^ 63 }
         ensures { Step self.old event.now reply.now self.new }
     {
-        let _ = (event, reply);
+        let _ = event;
+        let _ = reply;
         if !have_same_view(&self.state, &acted) {
             acted.count_step();
         }

@@ -1,4 +1,4 @@
+pub mod Alike
 pub mod Expired
 pub mod Places
 pub mod Served
-pub mod Sharing

@@ -51,7 +51,6 @@ impl MachineState {
 }
 
 /// Whether as many pins of each kind go to each place by the one list of places as by the other.
-#[tactic(auto, using(crate::proofs::Sharing::agrees_alike))]
 fn are_shared_alike(
     alloc: Global,
     view: &View,

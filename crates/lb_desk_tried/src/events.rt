@@ -101,7 +101,7 @@ impl Events {
         } else if kind < 67 {
             Event::Expire(self.some_moment())
         } else if kind < 79 {
-            Event::Check(self.server(), self.dice.is_one_in(2))
+            Event::Check(self.server(), !self.dice.is_one_in(3))
         } else {
             Event::Command(self.change())
         }
@@ -122,7 +122,7 @@ impl Events {
     /// Most requests have no rule, some have one or more.
     fn rules(&mut self, alloc: Global) -> Result<Vec<ServerId>, AllocError> {
         let mut rules = Vec::new(alloc);
-        let count = self.dice.roll(10).saturating_sub(6);
+        let count = self.dice.roll(16).saturating_sub(12);
         for _ in 0..count {
             rules.push(self.server())?;
         }
@@ -141,15 +141,14 @@ impl Events {
 
     /// A change to a server, of which few are refused.
     pub fn change(&mut self) -> Change {
-        let setting = match self.dice.roll(8) {
+        let setting = match self.dice.roll(10) {
             0 => Setting::Admin(AdminState::Maint),
             1 => Setting::Admin(AdminState::Drain),
-            2 => Setting::Admin(AdminState::Ready),
-            3 => Setting::Admin(AdminState::Ready),
-            4 => Setting::Health(self.dice.is_one_in(2)),
-            5 => Setting::Weight(self.number(4, 257)),
-            6 => Setting::MaxConnections(self.number(3, 1 << 32)),
-            _ => Setting::MaxPins(self.number(6, 16_777_217)),
+            2 | 3 | 4 | 5 => Setting::Admin(AdminState::Ready),
+            6 => Setting::Health(!self.dice.is_one_in(4)),
+            7 => Setting::Weight(self.number(4, 257)),
+            8 => Setting::MaxConnections(self.number(3, 1 << 32)),
+            _ => Setting::MaxPins(self.number(9, 16_777_217)),
         };
         Change {
             server: self.server(),

@@ -60,12 +60,12 @@ fn add_table(alloc: Global, text: &mut String, dice: &mut Dice) -> Result<()> {
 
 /// A server of weight 0 to 3, with or without a limit of connections and of pins, checked or not, and perhaps a backup.
 fn add_server(alloc: Global, text: &mut String, dice: &mut Dice, number: u32) -> Result<()> {
-    let weight = dice.roll(8).min(3);
+    let weight = dice.roll(10).min(3);
     let connections = dice.roll(4);
     text.push_str(&format!(in alloc;
         "  server s{number} 127.0.0.1:80 weight {weight} maxconn {connections}"
     )?)?;
-    if !dice.is_one_in(4) {
+    if dice.is_one_in(2) {
         text.push_str(&format!(in alloc; " maxpins {}", dice.roll(6))?)?;
     }
     if !dice.is_one_in(3) {
