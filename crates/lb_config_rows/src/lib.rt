@@ -1,5 +1,5 @@
-//! Configurations read from texts: their sections or their first fault, and what their sections, their `defaults` and the manual's
-//! defaults make of them, up to the backends that the machine opens with.
+//! Configurations read from texts: their sections, and what these, their `defaults` and the manual's defaults make of them, up to
+//! the backends that the machine opens with. The first fault of a text is told in `tests/check/first-faults.toml`.
 //!
 //! Tests alone, of `lb_config`, `lb_config_sections`, `_values` and `_rules`, which cross the answers of conditions, and of
 //! `lb_desk_backend`.
