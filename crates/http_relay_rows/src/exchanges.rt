@@ -1,65 +1,7 @@
-use crate::relaying::{client_address, joined, relay};
-use http_relay_body::{copy_back, send_body};
-use http_relay_forward::{continue_text, expects_continue, rewrite};
-use http_relay_head::{HEAD_ROOM, read_head};
-use http_relay_wire::{Script, ScriptedWire, write_all};
-use std::alloc::Global;
+use crate::relaying::{joined, relay};
+use http_relay_body::copy_back;
+use http_relay_wire::{Script, ScriptedWire};
 use std::test::Fail;
-
-// A whole exchange over two wires: the client is told to go on where it waits for that, and gets the server's bytes behind it.
-fn exchange(
-    alloc: Global,
-    client: &mut ScriptedWire<'_>,
-    server: &mut ScriptedWire<'_>,
-) -> Result<u64, Fail> {
-    let mut room = [0; HEAD_ROOM];
-    let read = read_head(alloc, client, &mut room, client_address())?;
-    let text = rewrite(alloc, &read.head(), false)?;
-    if expects_continue(&read.head(), read.body_kind()) {
-        write_all(client, continue_text())?;
-    }
-    write_all(server, &text)?;
-    send_body(read.body_kind(), read.rest(), client, server)?;
-    Ok(copy_back(server, client)?)
-}
-
-#[test]
-fn a_client_that_waits_is_told_to_go_on(rt: HostRuntime) -> Result<(), Fail> {
-    let told = b"HTTP/1.1 100 Continue\r\n\r\nHTTP/1.1 200 OK\r\n\r\nok".as_slice();
-    let untold = b"HTTP/1.1 200 OK\r\n\r\nok".as_slice();
-    let cases = [
-        (
-            b"POST /e HTTP/1.1\r\nHost: x\r\nExpect: 100-continue\r\nContent-Length: 2\r\n\r\nhi".as_slice(),
-            b"POST /e HTTP/1.1\r\nHost: x\r\nContent-Length: 2\r\nConnection: close\r\n\r\nhi".as_slice(),
-            told,
-        ),
-        (
-            b"POST /e HTTP/1.1\r\nexpect: 100-Continue\r\nTransfer-Encoding: chunked\r\n\r\n0\r\n\r\n",
-            b"POST /e HTTP/1.1\r\nTransfer-Encoding: chunked\r\nConnection: close\r\n\r\n0\r\n\r\n",
-            told,
-        ),
-        (
-            b"POST /e HTTP/1.0\r\nExpect: 100-continue\r\nContent-Length: 2\r\n\r\nhi",
-            b"POST /e HTTP/1.0\r\nContent-Length: 2\r\nConnection: close\r\n\r\nhi",
-            untold,
-        ),
-        (
-            b"POST /e HTTP/1.1\r\nExpect: 100-continue\r\nContent-Length: 0\r\n\r\n",
-            b"POST /e HTTP/1.1\r\nContent-Length: 0\r\nConnection: close\r\n\r\n",
-            untold,
-        ),
-    ];
-    for (request, sent, answered) in cases {
-        let mut client = ScriptedWire::new(rt.alloc(), request, Script::SMOOTH);
-        let mut server = ScriptedWire::new(rt.alloc(), untold, Script::SMOOTH);
-        let copied = exchange(rt.alloc(), &mut client, &mut server)?;
-        assert!(rt;
-            copied == 21 && server.written() == sent && client.written() == answered,
-            "{request:?}"
-        );
-    }
-    Ok(())
-}
 
 #[test]
 fn responses_of_any_size_follow_the_request(rt: HostRuntime) -> Result<(), Fail> {

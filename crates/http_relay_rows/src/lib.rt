@@ -1,11 +1,9 @@
-//! Whole requests, responses and probes over wires of memory.
+//! Whole requests and responses over wires of memory.
 //!
-//! Tests alone, which cross the reading of heads, their forwarded form, bodies, responses and probes. Start at `relaying`,
-//! the steps that each request goes through.
+//! Tests alone, which cross the reading of heads, their forwarded form, bodies and responses. Start at `relaying`,
+//! the steps that each request goes through. What a server gets of whole requests is tried in `tests/balancer/wholes.py`.
 #![tactic(auto)]
 
-#[cfg(test)]
-mod body_limits;
 #[cfg(test)]
 mod cuts_and_faults;
 #[cfg(test)]
@@ -15,8 +13,4 @@ mod forwarding;
 #[cfg(test)]
 mod heads;
 #[cfg(test)]
-mod probes;
-#[cfg(test)]
 mod relaying;
-#[cfg(test)]
-mod worked_requests;
