@@ -39,5 +39,5 @@ front_moved kind rest_kind behind front back left old new before mid after answe
     then_moved (λ _ text. IsBody kind text) (λ _ text. IsBody rest_kind text) behind back left old old new before mid after answer front taken sent
     (λ value rest part. (is rest).0 part)
     (λ rest (value, body, more, part, split).
-        let begins = (is rest).1 (body, more, part, split) in (tt, begins.0, begins.1, begins.2, begins.3))
+    let begins = (is rest).1 (body, more, part, split) in (tt, begins.0, begins.1, begins.2, begins.3))
     moved

@@ -70,8 +70,13 @@ leaves part text seen least len value within none must few fits is =
           omega (arith, follows, few, length-drop seen (take len text), length-take-le len text fits, length-drop len text, longer, fits))
       | inr shorter ↦
           (let front : take len (take seen text) ≡ take len text = take-take len seen text (omega (arith, shorter)) in
-          absurd (none (value, take len text, drop len (take seen text), is,
-            sym (take-append-drop len (take seen text)) ∙ ap (λ xs. xs ++ drop len (take seen text)) front)))
+          absurd (none (
+            value,
+            take len text,
+            drop len (take seen text),
+            is,
+            sym (take-append-drop len (take seen text)) ∙ ap (λ xs. xs ++ drop len (take seen text)) front,
+          )))
     ]
 
 -- nothing of a part is in the first bytes of a text that has grown
@@ -257,8 +262,13 @@ no_feed text seen within none absent (value, front, rest, is, parted) =
           cc)
       | inr shorter ↦
           (let size = length-take-le seen text within in
-          none (value, front, drop (length front) (take seen text), is,
-            front_within (take seen text) (drop seen text) front rest (take-append-drop seen text ∙ parted) (omega (arith, shorter, size))))
+          none (
+            value,
+            front,
+            drop (length front) (take seen text),
+            is,
+            front_within (take seen text) (drop seen text) front rest (take-append-drop seen text ∙ parted) (omega (arith, shorter, size)),
+          ))
     ]
 
 pub trailer_short : (value : ℕ) (front : List ℕ) → IsPartText Trailer value front → length front ≤ 8192
@@ -278,9 +288,10 @@ found_trailer text headers len count fields end places at short =
     let pairs = sym (length-map (take count headers) (header_bytes text)) ∙ ap length at.fields_are ∙ length-map fields name_and_value in
     let taken = length-take count headers in
     let len_is : len ≡ length section = at.len_is ∙ zero-add (length section) in
-    let is : take len text ≡ section = ap (λ n. take n text) len_is ∙ ap (take (length section)) at.reads.1 ∙ take-append_seam section (drop len text) in
-    (omega (arith, sizes, len_is),
-      (fields, end, record { form = at.reads.0; few = omega (arith, pairs, taken, places); short = omega (arith, len_is, short) }, is))
+    let is : take len text ≡ section = ap (λ n. take n text) len_is ∙ ap (take (length section)) at.reads.1 ∙ take-append_seam section (drop len text) in (
+      omega (arith, sizes, len_is),
+      (fields, end, record { form = at.reads.0; few = omega (arith, pairs, taken, places); short = omega (arith, len_is, short) }, is),
+    )
 
 -- a longer one than may be stands there
 pub long_trailer : (text : List ℕ) (headers : List HeaderSpan) (len count : ℕ) (fields : List Field) (end : LineEnd)

@@ -1,15 +1,17 @@
 -- One request and its response: RFC 9112, section 6 (bodies), and RFC 9110, section 10.1.1 (`100 Continue`). Our own: the response
 -- is read only after the whole request was sent.
-use Rattle.std.specs.Prelude.{◌≡◌, ℕ, Bool, true, false, List, Option, Result, Ok, Err, cond}
+use Rattle.std.specs.Prelude.{◌≡◌, ◌≤◌, ℕ, Bool, true, false, List, length, take, Option, Result, Ok, Err, cond}
 use Rattle.std.specs.Io.KnownBytes.{append_known}
 use Rattle.http_relay_wire.specs.Faults.{after_write_fault}
 use Rattle.http_relay_wire.specs.Wires.{AppendsBeginning}
 use Rattle.http_relay_wire.specs.declared.fault.WireFault.{WireFault}
 use Rattle.http_relay_forward.specs.Answers.{continue_text}
-use Rattle.http_relay_body.specs.Bodies.{IsBody}
+use Rattle.http_relay_body.specs.Bodies.{IsBody, IsFront}
 use Rattle.http_relay_body.specs.Moves as body
 use Rattle.http_relay_body.specs.Copies as response
 use Rattle.http_relay_body.specs.declared.fault.BodyFault.{BodyFault}
+use Rattle.http_relay_body.specs.declared.fault.BodyFault.TheVariants.{Truncated, Client, Server, BadChunk}
+use Rattle.http_relay_body.specs.declared.front.BodyFront.{BodyFront}
 use Rattle.http_relay_body.specs.declared.response.CopyFault.{CopyFault}
 use Rattle.http_relay_dial.specs.Dials.{Talk}
 use Rattle.http_relay_exchange.specs.Requests.{OutgoingView}
@@ -36,6 +38,24 @@ invited request client = cond request.expects_continue (wrote client continue_te
 abbrev pub Invites : OutgoingView → Talk → Talk → Result (Unit {0}) WireFault → Type 0
 Invites request old new (Ok value) = new ≡ invited request old
 Invites request old new (Err fault) = (request.expects_continue ≡ true) × FailsToWrite continue_text fault old new
+
+-- a head was written, and then these bytes; or the answer says which of them a write failed in
+abbrev pub SendsBoth : List ℕ → List ℕ → Talk → Talk → Result (Unit {0}) SendFault → Type 0
+SendsBoth head front old new (Ok value) = new ≡ wrote (wrote old head) front
+SendsBoth head front old new (Err (Continue fault)) = ⊥
+SendsBoth head front old new (Err (Head fault)) = FailsToWrite head fault old new
+SendsBoth head front old new (Err (Body Truncated)) = ⊥
+SendsBoth head front old new (Err (Body BadChunk)) = ⊥
+SendsBoth head front old new (Err (Body (Client fault))) = ⊥
+SendsBoth head front old new (Err (Body (Server fault))) = FailsToWrite front fault (wrote old head) new
+
+-- the head was written, and then the front of the body that came with it, as the answer says; or the answer says what failed
+abbrev pub SendsHead : OutgoingView → Talk → Talk → Result BodyFront SendFault → Type 0
+SendsHead request old new (Ok front) =
+    (front.len ≤ length request.behind) × IsFront request.kind (take front.len request.behind) front.rest
+    × (new ≡ wrote (wrote old request.head) (take front.len request.behind))
+SendsHead request old new (Err fault) =
+    (len : ℕ) × (len ≤ length request.behind) × SendsBoth request.head (take len request.behind) old new (Err fault)
 
 -- The body is sent: a body of the head's kind is taken from what was read behind the head and then from the client, and written to
 -- the server; or the answer says why not

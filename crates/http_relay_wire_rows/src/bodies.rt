@@ -192,3 +192,43 @@ fn a_client_that_ends_inside_its_body_is_cut_short(rt: HostRuntime) {
         }
     }
 }
+
+// As many reads and writes as these are enough, and one fewer is not. The first read takes the 4 bytes that the shortest body has, and
+// each other one the rest of its chunk and 4 bytes behind it. So a last chunk with a trailer of one line feed has come with the chunk
+// before it, and CR LF costs one read more. What was judged goes out before each read but the first two, and at the end.
+#[test]
+fn a_chunk_costs_one_read_and_one_write(rt: HostRuntime) -> Result<(), Fail> {
+    let content = [b'x'; 16000];
+    for (line, size, end, reads, writes) in [
+        (b"3e8\r\n".as_slice(), 1000, b"0\r\n\r\n".as_slice(), 102, 101),
+        (b"3e8\r\n", 1000, b"0\r\n\n", 101, 100),
+        (b"3e80\r\n", 16000, b"0\r\n\n", 101, 100),
+    ] {
+        let mut input = Vec::new(rt.alloc());
+        for _ in 0..100 {
+            input.extend_from_slice(line)?;
+            input.extend_from_slice(&content[..size])?;
+            input.extend_from_slice(b"\r\n")?;
+        }
+        input.extend_from_slice(end)?;
+        for (fewer_reads, fewer_writes) in [(0, 0), (1, 0), (0, 1)] {
+            let limited = Script {
+                reads: reads - fewer_reads,
+                ..Script::SMOOTH
+            };
+            let failing = Script {
+                failing_write: Some((writes - fewer_writes, WireFault::Broken)),
+                ..Script::SMOOTH
+            };
+            let mut client = ScriptedWire::new(rt.alloc(), &input, limited);
+            let mut server = ScriptedWire::new(rt.alloc(), b"", failing);
+            let answer = send_body(CHUNKS, b"", &mut client, &mut server);
+            assert_eq!(rt;
+                answer.is_ok(),
+                fewer_reads + fewer_writes == 0,
+                "{size} with {fewer_reads} reads and {fewer_writes} writes fewer"
+            );
+        }
+    }
+    Ok(())
+}

@@ -24,10 +24,11 @@ returns-then-left-eq0-clause-passed g c =
     let known = c.loop-left.invariant in
     let here = take c.min-here.result c.loop-left.room.ahead in
     let within = c.ahead.ensures in
-    let size = length-take-le c.min-here.result c.loop-left.room.ahead (grind (arith, common_steps, c.min-here.ensures, ap length within)) in
-    (known.done ++ here,
+    let size = length-take-le c.min-here.result c.loop-left.room.ahead (grind (arith, common_steps, c.min-here.ensures, ap length within)) in (
+      known.done ++ here,
       grind (arith, common_steps, length-append known.done here, size, known.size, c.if-left-eq0.true, c.min-here.ensures),
-      carry_twice _ _ _ known.done here known.carried (carry_judged _ _ _ _ _ c.min-here.result c.judge.ensures))
+      carry_twice _ _ _ known.done here known.carried (carry_judged _ _ _ _ _ c.min-here.result c.judge.ensures),
+    )
 
 pub loop-left-preserved : goal.loop-left-preserved
 loop-left-preserved g c =

@@ -23,9 +23,11 @@ loop-len-init g c = record {
 pub returns-in-Whole-clause-passed : goal.returns-in-Whole-clause-passed
 returns-in-Whole-clause-passed g c =
     let known = c.loop-len.invariant in
-    let sight = rw c.ahead.ensures at (rw c.in-Whole.is at c.look.ensures) in
-    (take c.in-Whole.len c.loop-len.room.ahead, sight.1,
-      carry_twice _ _ _ [] (take c.in-Whole.len c.loop-len.room.ahead) known.carried (carry_judged _ _ _ _ _ c.in-Whole.len c.judge.ensures))
+    let sight = rw c.ahead.ensures at (rw c.in-Whole.is at c.look.ensures) in (
+      take c.in-Whole.len c.loop-len.room.ahead,
+      sight.1,
+      carry_twice _ _ _ [] (take c.in-Whole.len c.loop-len.room.ahead) known.carried (carry_judged _ _ _ _ _ c.in-Whole.len c.judge.ensures),
+    )
 
 pub returns-in-Whole-clause-ahead : goal.returns-in-Whole-clause-ahead
 returns-in-Whole-clause-ahead g c =

@@ -8,10 +8,16 @@ returns-then-is_empty-clause-least c = empty_must c.args.text.now (grind (arith,
 
 pub returns-then-text-eq13-clause-least : goal.returns-then-text-eq13-clause-least
 returns-then-text-eq13-clause-least c =
-    λ value rest is. omega (arith, c.least_behind-behind.ensures,
-      size_must c.args.text.now 1 c.least_size.result c.requires (inl (omega arith)) c.least_size.ensures.least value rest is)
+    λ value rest is. omega (
+      arith,
+      c.least_behind-behind.ensures,
+      size_must c.args.text.now 1 c.least_size.result c.requires (inl (omega arith)) c.least_size.ensures.least value rest is,
+    )
 
 pub returns-clause-least : goal.returns-clause-least
 returns-clause-least c =
-    λ value rest is. omega (arith, c.least_behind-behind.ensures,
-      size_must c.args.text.now 2 c.least_size.result c.requires (inr (omega arith, c.if-text-eq13.false)) c.least_size.ensures.least value rest is)
+    λ value rest is. omega (
+      arith,
+      c.least_behind-behind.ensures,
+      size_must c.args.text.now 2 c.least_size.result c.requires (inr (omega arith, c.if-text-eq13.false)) c.least_size.ensures.least value rest is,
+    )
