@@ -4,11 +4,11 @@ ghost use Rattle.http_relay_serve.specs.Serves.{port_seen};
 ghost use Rattle.http_relay_work.specs.Services.{ServesAtFrontend, ServesOnce};
 ghost use Rattle.lb_routes.specs.RequestsOf.{routes_at, routes_of};
 
-use crate::{Relay, RelayWorker};
+use crate::{Leavers, Relay, RelayWorker};
 use http_relay_head::HEAD_ROOM;
 use http_relay_lobby::Arrival;
 use http_relay_serve::{Cause, Client, DropCause, Outcome, serve_one};
-use http_relay_socket::{FrontedWire, end_gently};
+use http_relay_socket::FrontedWire;
 use http_relay_wire::{SocketWire, Wire};
 use lb_desk_ports::{Gate, Port};
 use lb_routes::ConfigRoutes;
@@ -21,7 +21,7 @@ use std::time::Clock;
 /// configuration has no such frontend: the connection is closed.
 ///
 /// Behind the dial no memory is asked for. The client's stream has the limits that it came with, and the bytes that were read of it come
-/// first. The end takes up to a second where the client doesn't end by itself.
+/// first. Where the client doesn't close by itself it is waited for among `leavers`.
 pub fn serve_arrival<R, S, P, G>(
     rt: &R,
     alloc: Global,
@@ -30,6 +30,7 @@ pub fn serve_arrival<R, S, P, G>(
     arrival: Arrival<S>,
     ports: &mut [P],
     room: &mut [u8; HEAD_ROOM],
+    leavers: &mut Leavers<S>,
 ) -> Option<Outcome>
 where
     R: Net + Clock,
@@ -53,7 +54,7 @@ where
     let mut stream = stream;
     let wire = FrontedWire::new(SocketWire::new(&mut stream), &head, failed);
     let outcome = serve_over(rt, alloc, worker, &routes, source, wire, ports, room);
-    end(rt, outcome, stream, room);
+    end(rt, outcome, stream, leavers);
     Some(outcome)
 }
 
@@ -84,15 +85,13 @@ where
 /// Ends the client's connection. One that broke off before its head was read got nothing that could be lost, so it is closed at once.
 /// So is one whose head took too long: of a client that was silent nothing is unread, by which an answer would be lost, and to wait for
 /// its end would give a silent client a worker for a second.
-fn end<R, S>(rt: &R, outcome: Outcome, stream: S, room: &mut [u8; HEAD_ROOM])
+fn end<R, S>(rt: &R, outcome: Outcome, stream: S, leavers: &mut Leavers<S>)
 where
     R: Clock,
     S: Read + Write + OpenStream + Drop,
 {
     match outcome {
         Outcome::Dropped(DropCause::HeadBroken) | Outcome::Answered(Cause::HeadTimedOut) => {}
-        _ => {
-            end_gently(rt, stream, room);
-        }
+        _ => leavers.add(rt, stream),
     }
 }

@@ -4,7 +4,7 @@ use http_relay_serve::{Cause, DropCause, Outcome, Worker};
 use http_relay_socket::StreamLimits;
 use http_relay_system::{SocketDialer, SystemClock};
 use http_relay_wire::WireFault;
-use http_relay_work::{Relay, serve_arrival};
+use http_relay_work::{Leavers, Relay, serve_arrival};
 use lb_desk_ports::{OpenGate, PortScript, ScriptedPort};
 use std::net::TcpListener;
 use std::test::Fail;
@@ -106,6 +106,7 @@ fn serve<'a>(
         return Ok((None, Vec::new(rt.alloc())));
     }
     let mut room = [0; HEAD_ROOM];
+    let mut leavers = Leavers::new(rt.alloc());
     let outcome = serve_arrival(
         rt,
         rt.alloc(),
@@ -114,6 +115,7 @@ fn serve<'a>(
         arrival,
         &mut ports,
         &mut room,
+        &mut leavers,
     );
     Ok((outcome, got(rt, &mut far)?))
 }
