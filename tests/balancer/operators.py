@@ -6,6 +6,8 @@ import contextlib
 import os
 import socket
 import stat
+import threading
+import time
 from pathlib import Path
 
 from .cases import case, expect, expect_equal, wait_until
@@ -187,6 +189,29 @@ def an_operator_that_says_nothing_keeps_nobody_out_for_ever(farm: Farm) -> None:
     with operator_stream(balancer.operators), operator_stream(balancer.operators) as half:
         half.sendall(b"show pl")
         expect_equal("the answer to another one", balancer.tell("show plan web"), "no plan\n\n")
+    ends_well(balancer, checked=True)
+
+
+@case
+def an_operator_that_sends_a_byte_now_and_then_keeps_nobody_out_for_ever(farm: Farm) -> None:
+    balancer = farm_of_two(farm)
+    ended = threading.Event()
+
+    def drip(stream: socket.socket) -> None:
+        with contextlib.suppress(OSError):
+            while not ended.wait(0.2):
+                stream.sendall(b";")
+
+    with operator_stream(balancer.operators) as stream:
+        dripping = threading.Thread(target=drip, args=(stream,))
+        dripping.start()
+        begun = time.monotonic()
+        try:
+            expect_equal("the answer to another one", balancer.tell("show plan web"), "no plan\n\n")
+            expect("it came behind 5 seconds", 3 < time.monotonic() - begun < 8)
+        finally:
+            ended.set()
+            dripping.join()
     ends_well(balancer, checked=True)
 
 

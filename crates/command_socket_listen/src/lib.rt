@@ -2,12 +2,14 @@
 //!
 //! Promised: nothing by a clause, since no clause says what the system does. Tested: who may connect to a path, that a socket which a
 //! dead program left is replaced, that one which somebody listens on and files of other kinds are left alone, that a stop is seen, and
-//! that the path is free again at the end. Start at `CommandListener`.
+//! that the path is free again at the end, and that a line which comes byte by byte has 5 s in all. Start at `CommandListener`.
 #![tactic(auto)]
 
+mod line;
 mod listener;
 mod path;
 mod stream;
 
+pub use line::LineStream;
 pub use listener::CommandListener;
 pub use stream::CommandStream;

@@ -12,22 +12,18 @@ use lb_types_counted::Counted;
 use std::alloc::Global;
 use std::io;
 use std::io::{BufRead, BufReader, BufWriter, ErrorKind, Read, Write};
-use std::net::OpenStream;
-use std::time::Duration;
-
-/// How many milliseconds a client may say nothing, or take nothing, before it is let go.
-pub const MOST_SILENT_MILLIS: u64 = 5000;
 
 /// How many bytes are read at most: a longest line, the two bytes of its end, and none more.
 const MOST_READ: u64 = 4098;
 
 /// Answers the one line of a connection, which is ended by a line feed, by a carriage return and a line feed, or by the end of what the
-/// client sends. The caller closes the connection. There is a desk for each backend of the configuration, in its order.
+/// client sends. The caller closes the connection, and limits its reads and writes. There is a desk for each backend of the configuration,
+/// in its order.
 ///
 /// A line of more than 4,096 bytes is answered as one `100 UnknownCommand`; what stands behind the first 4,098 bytes is not read. A client
-/// that says nothing for `MOST_SILENT_MILLIS`, or whose connection fails, is let go without an answer, and nothing is carried out. Where
-/// there is not memory enough to read the line, `out of memory` is the answer.
-pub fn serve_connection<R, S: Steer<R>, G: Gate<R>, T: Told, C: Read + Write + OpenStream>(
+/// whose connection fails before its line has ended, as by a limit, is let go without an answer, and nothing is carried out. Where there is
+/// not memory enough to read the line, `out of memory` is the answer.
+pub fn serve_connection<R, S: Steer<R>, G: Gate<R>, T: Told, C: Read + Write>(
     rt: &R,
     alloc: Global,
     console: &Console<'_, G>,
@@ -70,12 +66,9 @@ fn refuse_line<W: Write>(out: &mut W) -> Printed {
 }
 
 /// Reads the first line of a connection, with its end. It takes memory for 8,192 bytes beside the line.
-fn read_text<C: Read + OpenStream>(alloc: Global, stream: &mut C) -> io::Result<Vec<u8>>
+fn read_text<C: Read>(alloc: Global, stream: &mut C) -> io::Result<Vec<u8>>
     ensures { IfOk result (λ text. IsTextOf (C.remaining stream.old) text.items) }
 {
-    let silent = Some(Duration::from_millis(MOST_SILENT_MILLIS));
-    stream.set_read_timeout(silent)?;
-    stream.set_write_timeout(silent)?;
     let mut text = Vec::new(alloc);
     let mut reader = BufReader::new(alloc, stream.take(MOST_READ))?;
     reader.read_until(b'\n', &mut text)?;

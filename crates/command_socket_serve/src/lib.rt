@@ -14,7 +14,7 @@ mod printing;
 mod shows;
 mod told;
 
-pub use connection::{MOST_SILENT_MILLIS, serve_connection};
+pub use connection::serve_connection;
 pub use console::{Console, named_backend};
 pub use line::{Answered, Next, answer_line};
 pub use told::Told;

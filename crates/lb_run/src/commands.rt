@@ -3,7 +3,7 @@ ghost use Rattle.std.specs.Prelude.{◌≡◌, length, IfOk};
 use crate::Host;
 use crate::bells::Bells;
 use crate::floor::{Floor, RunSeat};
-use command_socket_listen::CommandListener;
+use command_socket_listen::{CommandListener, LineStream};
 use command_socket_serve::{Console, Next, named_backend, serve_connection};
 use http_relay_socket::end_gently;
 use lb_answers::NamedBackend;
@@ -49,11 +49,12 @@ fn answer_each<R: Host, B: Naming>(
 {
     let mut room = [0; ROOM];
     for _ in rt.forever() {
-        let Some(mut stream) = listener.next_connection(rt, floor.stop) else {
+        let Some(stream) = listener.next_connection(rt, floor.stop) else {
             break;
         };
-        let next = serve_connection(rt, floor.alloc, console, seats, bells, &mut stream);
-        end_gently(rt, stream, &mut room);
+        let mut line = LineStream::new(rt, stream);
+        let next = serve_connection(rt, floor.alloc, console, seats, bells, &mut line);
+        end_gently(rt, line.into_stream(), &mut room);
         if next == Next::Stop {
             break;
         }
