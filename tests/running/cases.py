@@ -65,11 +65,12 @@ class Source:
             return self.repeated(value["text"], value["times"], value.get("from", 0))
         raise self.bad(f"{value!r} is no text")
 
-    def repeated(self, text: str, times: int, first: int) -> bytes:
-        """Returns as many copies of the text, each with its number, counted from the first one's."""
-        if NUMBER not in text:
-            return self.bytes_of(text) * times
-        return self.bytes_of("".join(text.replace(NUMBER, str(first + copy)) for copy in range(times)))
+    def repeated(self, text: Any, times: int, first: int) -> bytes:
+        """Returns as many copies of the text, each with its number, counted from the first one's. Copies within it have theirs already."""
+        copied, mark = self.bytes_of(text), NUMBER.encode()
+        if mark not in copied:
+            return copied * times
+        return b"".join(copied.replace(mark, str(first + copy).encode()) for copy in range(times))
 
 
 def shortened(text: str) -> str:
