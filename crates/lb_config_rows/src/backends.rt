@@ -73,7 +73,7 @@ const FARM: [BackendRow; 5] = [
 ];
 
 /// Two checked servers of five pins each, by the manual's defaults.
-const TWO_SERVERS: &[u8] =
+pub(crate) const TWO_SERVERS: &[u8] =
     b"backend web\n  stick-table type string size 10\n  stick on hdr(x-id)\n  server a 127.0.0.1:8001 check maxpins 5\n  server b 127.0.0.1:8002 check maxpins 5\n";
 
 const TWO_SERVERS_ROW: [BackendRow; 1] = [(
@@ -137,7 +137,7 @@ fn is_backend(backend: &Backend, wanted: &BackendRow) -> bool {
             .all(|(server, wanted)| is_server(server, wanted))
 }
 
-fn config(rt: &impl Abort, alloc: Global, text: &[u8]) -> Config {
+pub(crate) fn config(rt: &impl Abort, alloc: Global, text: &[u8]) -> Config {
     match read_config(alloc, text) {
         Ok(config) => config,
         Err(_) => panic!(rt; "a fault in {text:?}"),

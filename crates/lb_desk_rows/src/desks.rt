@@ -1,28 +1,36 @@
-//! A row at running desks.
+//! A row at running desks, with a hasher of fixed seed and with a seeded one.
 
 use crate::asked::in_short;
 use crate::row::Row;
 use lb_desk_step::Desk;
 use std::alloc::Global;
-use std::hash::{BuildHasher, BuildHasherDefault, FoldHasher};
+use std::hash::{BuildHasher, BuildHasherDefault, FoldHasher, RandomState};
 use std::process::Abort;
+use std::random::RandomSource;
 use std::test::Fail;
 
 /// Journals of one entry, of two, and of more than any row has.
 const JOURNALS: [u32; 3] = [1, 2, 1000];
 
-/// Takes the row's events at desks with each journal, and compares the replies and what the journal keeps in the end.
-pub(crate) fn play_at_desks(rt: &impl Abort, alloc: Global, row: &Row) -> Result<(), Fail> {
+/// Takes the row's events at desks with each journal and each hasher, and compares the replies and what the journal keeps in the end.
+pub(crate) fn play_at_desks(
+    rt: &(impl Abort + RandomSource),
+    alloc: Global,
+    row: &Row,
+) -> Result<(), Fail> {
     for journal in JOURNALS {
-        let hasher = BuildHasherDefault::<FoldHasher>::new();
-        let desk = row.farm.desk(alloc, journal, hasher)?;
+        let fixed = BuildHasherDefault::<FoldHasher>::new();
+        let desk = row.farm.desk(alloc, journal, fixed)?;
+        play_at(rt, alloc, row, desk)?;
+        let seeded = RandomState::new(rt)?;
+        let desk = row.farm.desk(alloc, journal, seeded)?;
         play_at(rt, alloc, row, desk)?;
     }
     Ok(())
 }
 
 /// The same at one desk, which has taken no event yet.
-pub(crate) fn play_at<S: BuildHasher + Drop>(
+fn play_at<S: BuildHasher + Drop>(
     rt: &impl Abort,
     alloc: Global,
     row: &Row,

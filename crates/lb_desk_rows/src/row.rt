@@ -9,6 +9,7 @@ use lb_desk_plain_events::MachineState;
 use pin_set::PinKey;
 use std::alloc::Global;
 use std::process::Abort;
+use std::random::RandomSource;
 use std::test::Fail;
 
 /// The key of a pin, its server and its last use.
@@ -36,7 +37,11 @@ pub(crate) const ROW: Row = Row {
 };
 
 /// Takes each row's events in turn, and compares the replies. Then it takes them in one run, and at desks.
-pub(crate) fn play(rt: &impl Abort, alloc: Global, rows: &[Row]) -> Result<(), Fail> {
+pub(crate) fn play(
+    rt: &(impl Abort + RandomSource),
+    alloc: Global,
+    rows: &[Row],
+) -> Result<(), Fail> {
     for row in rows {
         let mut events = Vec::new(alloc);
         for (ask, _) in row.steps {

@@ -3,13 +3,11 @@
 use crate::asked::Ask::{Open, Serve, ServeBy, ServeDear, Set};
 use crate::asked::Said::{Done, Kept, Loose, Made, Moved, Opened, Refused};
 use crate::asked::{A, B, C};
-use crate::desks::play_at;
 use crate::farms::{BACKUP, CHECKED, Farm, Host, TWO};
 use crate::row::{ROW, Row, play};
 use lb_desk_model::{Balance, Refusal};
 use server_state::AdminState::Maint;
 use server_state::Setting::{Admin, Health, Weight};
-use std::hash::RandomState;
 use std::test::Fail;
 
 const UNCHECKED: Host = Host {
@@ -222,14 +220,4 @@ const BALANCES: &[Row] = &[
 fn requests_are_served(rt: HostRuntime) -> Result<(), Fail> {
     play(&rt, rt.alloc(), PINS)?;
     play(&rt, rt.alloc(), BALANCES)
-}
-
-#[test]
-fn requests_are_served_with_a_seeded_hasher(rt: HostRuntime) -> Result<(), Fail> {
-    for row in PINS {
-        let seeded = RandomState::new(&rt)?;
-        let desk = row.farm.desk(rt.alloc(), 2, seeded)?;
-        play_at(&rt, rt.alloc(), row, desk)?;
-    }
-    Ok(())
 }
