@@ -95,7 +95,7 @@ fn let_in<R: Wait, S: BuildHasher, N: Naming>(
 }
 
 #[test]
-fn planner_lets_traffic_in(rt: HostRuntime) -> Result<(), Fail> {
+fn a_planner_that_is_told_lets_a_request_in(rt: HostRuntime) -> Result<(), Fail> {
     let backend = two_servers(rt.alloc())?;
     for row in ROWS {
         let opened = Opened::new(rt.alloc())?;

@@ -1,0 +1,7 @@
+use Rattle.lb_desk_seat_rows.proofs.gates.planner_lets_traffic_in.Given as goal
+
+abbrev pub ghosts-meet-N-Tables : goal.ghosts-meet-N-Tables
+ghosts-meet-N-Tables g a = record { table_of = λ _. a.opened }
+
+abbrev pub ghosts-meet-N-Naming : goal.ghosts-meet-N-Naming
+ghosts-meet-N-Naming g a = record { opening = λ _. a.backend.now }
