@@ -1,7 +1,0 @@
-use Rattle.lb_desk_seat_rows.proofs.telling.planner_lets_traffic_in.Given as goal
-
-abbrev pub ghosts-tell-N-Tables : goal.ghosts-tell-N-Tables
-ghosts-tell-N-Tables g a = record { table_of = λ _. a.opened }
-
-abbrev pub ghosts-tell-N-Naming : goal.ghosts-tell-N-Naming
-ghosts-tell-N-Naming g a = record { opening = λ _. a.backend.now }
