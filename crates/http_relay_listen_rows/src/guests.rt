@@ -106,7 +106,7 @@ fn are_dismissed<R: Wait + Clock + Net<Stream = TcpStream>>(
     Ok((first_millis, second_millis, first && second))
 }
 
-// Each byte begins the limit anew.
+// Each byte begins the limit anew. The lobby reads its clock in whole milliseconds, so that a limit may end within one of them before its time.
 #[test]
 fn a_silent_client_is_dismissed(rt: HostRuntime) -> Result<(), Fail> {
     let listener = listen(&rt, any_port())?;
@@ -125,7 +125,7 @@ fn a_silent_client_is_dismissed(rt: HostRuntime) -> Result<(), Fail> {
     gathered?;
     let (first, second, are_told) = times?;
     assert!(rt;
-        are_told && first >= 300 && first < 900 && second >= 500 && second < 1100,
+        are_told && first >= 299 && first < 900 && second >= 499 && second < 1100,
         "{first}, {second}"
     );
     Ok(())
