@@ -1,0 +1,22 @@
+//! Where the call begins and ends of which a test is. A mark is a request for memory of a size that nothing else here asks for: so
+//! `bench/refused`, which sees requests alone, knows which of them it may refuse.
+
+use std::alloc::{AllocError, Global};
+
+const BEGINS: usize = 65521;
+
+const ENDS: usize = 65519;
+
+pub(crate) fn begin(alloc: Global) -> Result<(), AllocError> {
+    ask(alloc, BEGINS)
+}
+
+pub(crate) fn end(alloc: Global) -> Result<(), AllocError> {
+    ask(alloc, ENDS)
+}
+
+fn ask(alloc: Global, bytes: usize) -> Result<(), AllocError> {
+    let mut room: Vec<u8> = Vec::with_capacity(alloc, bytes)?;
+    room.push(0)?;
+    Ok(())
+}
