@@ -23,6 +23,8 @@ pub(crate) const A: u8 = 0;
 
 pub(crate) const B: u8 = 1;
 
+pub(crate) const C: u8 = 2;
+
 /// The keys of the requests that come first, a millisecond after one another. Pins go to a, b, c and a.
 pub(crate) const FIRST: [&str; 4] = ["k1", "k2", "k3", "k4"];
 

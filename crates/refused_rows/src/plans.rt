@@ -1,6 +1,6 @@
 //! A plan for a sheet.
 
-use crate::marks::{begin, end};
+use crate::marks::{begin, end, tell};
 use cert_check::check;
 use dual_cert::read_sheet;
 use flow_planner::plan;
@@ -34,7 +34,10 @@ fn a_plan_for_a_sheet(rt: HostRuntime) -> Result<(), Fail> {
     end(alloc)?;
     let planned = match told {
         Ok(planned) => planned,
-        Err(_) => plan(alloc, &sheet)?,
+        Err(_) => {
+            tell(alloc)?;
+            plan(alloc, &sheet)?
+        }
     };
     assert_eq!(rt; check(&sheet, planned.plan()), Ok(BOTH_MOVED));
     Ok(())

@@ -1,6 +1,6 @@
 //! A chunked upload through the relay, over memory. Its wires take memory too: one that is refused it breaks.
 
-use crate::marks::{begin, end};
+use crate::marks::{begin, end, tell};
 use http_relay_dial::{DialScript, ScriptedDialer};
 use http_relay_head::HEAD_ROOM;
 use http_relay_serve::{Cause, Client, Outcome, Worker, serve_one};
@@ -140,6 +140,7 @@ fn a_chunked_upload(rt: HostRuntime) -> Result<(), Fail> {
     let first = serve(&rt, alloc, &config)?;
     assert!(rt; first.is_slot_back, "a slot is kept");
     if is_for_memory(&first.outcome) {
+        tell(alloc)?;
         assert!(rt;
             first.answer.as_slice() == INTERNAL_SERVER_ERROR && first.sent.is_none(),
             "not answered 500 before the dial"

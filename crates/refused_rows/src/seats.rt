@@ -2,7 +2,7 @@
 ghost use Rattle.std.specs.Prelude.{◌≡◌};
 
 use crate::farm::{A, FIRST, TWO_MOVED, farm, request, server};
-use crate::marks::{begin, end};
+use crate::marks::{begin, end, tell};
 use lb_desk_evacuate::{Evacuation, evacuate};
 use lb_desk_model::{Backend, Entry, Event};
 use lb_desk_ports::{OpenGate, Port, Refused};
@@ -76,6 +76,7 @@ fn leave_a<R: Abort, P: Steer<R>>(rt: &R, alloc: Global, seat: &mut P) -> Result
     let evacuation = match told {
         Ok(evacuation) => evacuation,
         Err(refused) => {
+            tell(alloc)?;
             assert_eq!(rt; refused, Refused::Memory);
             assert!(rt;
                 seat.rows(rt, alloc)? == pins,

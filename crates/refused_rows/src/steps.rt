@@ -1,9 +1,9 @@
 //! Each event at a desk that has four pins, two of them at a server that is to be left.
 
-use crate::farm::{A, B, FIRST, Hasher, TWO_MOVED, farm, request, server};
-use crate::marks::{begin, end};
+use crate::farm::{A, B, C, FIRST, Hasher, TWO_MOVED, farm, request, server};
+use crate::marks::{begin, end, tell};
 use dual_cert::{read_plan, read_sheet};
-use lb_desk_model::{Entry, Event, Reply, ServedAs, Shared, TablePin};
+use lb_desk_model::{Entry, Event, Refusal, Reply, ServedAs, Shared, TablePin};
 use lb_desk_ports::Refused;
 use lb_desk_step::Desk;
 use lb_types::Moment;
@@ -125,6 +125,7 @@ fn is_as_before(
     before: &Stand,
     refused: Refused,
 ) -> Result<(), Fail> {
+    tell(alloc)?;
     assert_eq!(rt; refused, Refused::Memory);
     assert!(rt;
         Stand::of(alloc, desk)?.is(before),
@@ -159,57 +160,24 @@ fn a_request_that_moves_its_pin(rt: HostRuntime) -> Result<(), Fail> {
     takes(&rt, alloc, desk, event, &owed)
 }
 
+// None of these needs memory. An Expire comes ten seconds after the last use of k2, k3 and k4, and a millisecond before those of k1
+// are over. A server that has had no check is one failure from down.
 #[test]
-fn a_connection(rt: HostRuntime) -> Result<(), Fail> {
+fn events_that_need_no_memory(rt: HostRuntime) -> Result<(), Fail> {
     let alloc = rt.alloc();
-    takes(
-        &rt,
-        alloc,
-        desk(alloc)?,
-        Event::Open(server(B)),
-        &Reply::Opened,
-    )
-}
-
-#[test]
-fn the_end_of_a_connection(rt: HostRuntime) -> Result<(), Fail> {
-    let alloc = rt.alloc();
-    let mut desk = desk(alloc)?;
-    desk.step(Event::Open(server(B)))?;
-    takes(&rt, alloc, desk, Event::Close(server(B)), &Reply::Closed)
-}
-
-// Ten seconds after the last use of k2, k3 and k4, and a millisecond before those of k1 are over.
-#[test]
-fn pins_that_expire(rt: HostRuntime) -> Result<(), Fail> {
-    let alloc = rt.alloc();
-    let event = Event::Expire(Moment::from_millis(10003));
-    takes(&rt, alloc, desk(alloc)?, event, &Reply::Expired(3))
-}
-
-#[test]
-fn a_check(rt: HostRuntime) -> Result<(), Fail> {
-    let alloc = rt.alloc();
-    let owed = Reply::Checked(Checked::Took(Flip::Stays));
-    takes(
-        &rt,
-        alloc,
-        desk(alloc)?,
-        Event::Check(server(B), false),
-        &owed,
-    )
-}
-
-#[test]
-fn a_command(rt: HostRuntime) -> Result<(), Fail> {
-    let alloc = rt.alloc();
-    takes(
-        &rt,
-        alloc,
-        desk(alloc)?,
-        set_a(AdminState::Maint),
-        &Reply::Done,
-    )
+    let open = Event::Open(server(B));
+    takes(&rt, alloc, desk(alloc)?, open, &Reply::Opened)?;
+    let mut connected = desk(alloc)?;
+    connected.step(Event::Open(server(B)))?;
+    let close = Event::Close(server(B));
+    takes(&rt, alloc, connected, close, &Reply::Closed)?;
+    let expire = Event::Expire(Moment::from_millis(10003));
+    takes(&rt, alloc, desk(alloc)?, expire, &Reply::Expired(3))?;
+    let checked = Reply::Checked(Checked::Took(Flip::WentDown));
+    let check = Event::Check(server(B), false);
+    takes(&rt, alloc, desk(alloc)?, check, &checked)?;
+    let command = set_a(AdminState::Maint);
+    takes(&rt, alloc, desk(alloc)?, command, &Reply::Done)
 }
 
 #[test]
@@ -219,17 +187,43 @@ fn a_sheet(rt: HostRuntime) -> Result<(), Fail> {
     takes(&rt, alloc, desk(alloc)?, Event::Snapshot, &owed)
 }
 
+fn install(alloc: Global) -> Result<Event, Fail> {
+    let plan = read_plan(alloc, PLAN)?;
+    Ok(Event::Install(Shared::new(alloc, plan)?))
+}
+
 #[test]
 fn the_install_of_a_plan(rt: HostRuntime) -> Result<(), Fail> {
     let alloc = rt.alloc();
-    let event = Event::Install(Shared::new(alloc, read_plan(alloc, PLAN)?)?);
     takes(
         &rt,
         alloc,
         desk(alloc)?,
-        event,
+        install(alloc)?,
         &Reply::Installed(TWO_MOVED),
     )
+}
+
+// Where the install is refused b and c have one pin each, and get one more. Else they have two each, and a is left.
+#[test]
+fn room_behind_an_install(rt: HostRuntime) -> Result<(), Fail> {
+    let alloc = rt.alloc();
+    let mut desk = desk(alloc)?;
+    let event = install(alloc)?;
+    begin(alloc)?;
+    let told = desk.step(event);
+    end(alloc)?;
+    let mut owed = vec![in alloc; Reply::Refused(Refusal::NoServer)]?;
+    if told.is_err() {
+        tell(alloc)?;
+        owed.insert(0, Reply::Served(server(C), ServedAs::Made))?;
+        owed.insert(0, Reply::Served(server(B), ServedAs::Made))?;
+    }
+    for (key, owed) in ["k5", "k6", "k7"].iter().zip(&owed) {
+        let reply = desk.step(Event::Serve(request(alloc, 5, *key)?))?;
+        assert_eq!(rt; reply, *owed);
+    }
+    Ok(())
 }
 
 #[test]
