@@ -79,7 +79,7 @@ fn name_of(number: u32) -> PinId {
 
 /// What it costs to move the pin of this number: no two cost the same.
 fn cost_of(number: u32) -> u16 {
-    number as u16 % 100 + 1
+    (number % 100 + 1) as u16
 }
 
 /// Makes the pin of this number at a.
