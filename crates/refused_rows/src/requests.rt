@@ -137,26 +137,24 @@ fn is_for_memory(outcome: &Outcome) -> bool {
 fn a_chunked_upload(rt: HostRuntime) -> Result<(), Fail> {
     let alloc = rt.alloc();
     let config = read_config(alloc, TEXT)?;
-    let first = serve(&rt, alloc, &config)?;
-    assert!(rt; first.is_slot_back, "a slot is kept");
-    if is_for_memory(&first.outcome) {
+    let mut last = serve(&rt, alloc, &config)?;
+    assert!(rt; last.is_slot_back, "a slot is kept");
+    if is_for_memory(&last.outcome) {
         tell(alloc)?;
         assert!(rt;
-            first.answer.as_slice() == INTERNAL_SERVER_ERROR && first.sent.is_none(),
+            last.answer.as_slice() == INTERNAL_SERVER_ERROR && last.sent.is_none(),
             "not answered 500 before the dial"
         );
     }
-    let last = if first.outcome == Outcome::Relayed {
-        first
-    } else {
-        serve(&rt, alloc, &config)?
-    };
+    if last.outcome != Outcome::Relayed {
+        last = serve(&rt, alloc, &config)?;
+    }
     assert_eq!(rt; last.outcome, Outcome::Relayed);
     assert!(rt;
         last.answer.as_slice() == RESPONSE && last.is_slot_back,
         "not this response"
     );
-    if let Some(sent) = last.sent {
+    if let Some(sent) = &last.sent {
         assert!(rt; sent.as_slice() == SENT, "not this upload");
     }
     Ok(())

@@ -42,7 +42,16 @@ fn at_a_desk<S: BuildHasher + Drop, N: Naming, R: Wait + Abort>(
 {
     let desk = Desk::open(alloc, backend, JOURNAL, hasher)?;
     let desk = SharedDesk::<S, N>::of(opened, 0, desk);
-    let mut seat = Seat::new(alloc, &desk, desk.enter(rt)?);
+    at_a_seat(rt, alloc, &desk)
+}
+
+/// All calls come from one seat.
+fn at_a_seat<S: BuildHasher, N: Naming, R: Wait + Abort>(
+    rt: &R,
+    alloc: Global,
+    desk: &SharedDesk<S, N>,
+) -> Result<(), Fail> {
+    let mut seat = Seat::new(alloc, desk, desk.enter(rt)?);
     begin_the_day(rt, alloc, &mut seat)?;
     leave_a(rt, alloc, &mut seat)
 }
