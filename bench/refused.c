@@ -3,8 +3,8 @@
  *
  * The program asks the C library alone, by malloc and realloc, and for large alignments by other functions. What the library asks
  * for on its behalf, as for a thread's own variables, comes here too; stacks, which it maps, do not. Requests are counted from the
- * program's start, or between marks. A mark is a request for just so many bytes, by a test that has no other way to tell where the
- * call begins and ends that it tries.
+ * program's start, or between marks. A mark is a request for just so many bytes, by a test that has no other way to tell where a
+ * call begins and ends that it tries, and that this said that it had no memory.
  */
 #define _GNU_SOURCE
 #include <errno.h>
@@ -18,6 +18,7 @@
 
 #define BEGIN_MARK 65521
 #define END_MARK 65519
+#define TOLD_MARK 65497
 
 extern void *__libc_malloc(size_t);
 extern void *__libc_calloc(size_t, size_t);
@@ -31,7 +32,8 @@ struct page {
     _Atomic uint64_t first;   /* the first to be refused */
     _Atomic uint64_t last;    /* and the last */
     _Atomic uint64_t marked;  /* whether only requests between marks count */
-    _Atomic uint64_t inside;  /* whether the last mark was one that begins */
+    _Atomic uint64_t inside;  /* whether a call has begun that has not ended */
+    _Atomic uint64_t told;    /* how many calls said that they had no memory */
 };
 
 static struct page *page;
@@ -56,6 +58,10 @@ static int is_refused(size_t bytes)
     if (atomic_load(&page->marked)) {
         if (bytes == BEGIN_MARK || bytes == END_MARK) {
             atomic_store(&page->inside, bytes == BEGIN_MARK);
+            return 0;
+        }
+        if (bytes == TOLD_MARK) {
+            atomic_fetch_add(&page->told, 1);
             return 0;
         }
         if (!atomic_load(&page->inside))

@@ -45,7 +45,7 @@ class Ending:
 class Shim:
     """The library that refuses, and its page: 64-bit numbers, in the order of `struct page` in refused.c."""
 
-    COUNTED, REFUSED, FIRST, LAST, MARKED, INSIDE = range(0, 48, 8)
+    COUNTED, REFUSED, FIRST, LAST, MARKED, INSIDE, TOLD = range(0, 56, 8)
 
     def __init__(self, library: Path, page_file: Path) -> None:
         self.library, self.page_file = library, page_file
@@ -61,7 +61,7 @@ class Shim:
 
     def begin(self, first: int, last: int, marked: bool) -> None:
         """Refuses these requests of the next run, counted from 1; where `marked`, only those between marks are counted."""
-        struct.pack_into("6Q", self.page, 0, 0, 0, first, last, int(marked), 0)
+        struct.pack_into("7Q", self.page, 0, 0, 0, first, last, int(marked), 0, 0)
 
     def refuse_behind(self, ahead: int, count: int) -> None:
         """Of a program that runs, lets so many requests pass, and refuses so many behind them. 0 of them refuses none."""

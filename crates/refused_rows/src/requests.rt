@@ -1,0 +1,161 @@
+//! A chunked upload through the relay, over memory. Its wires take memory too: one that is refused it breaks.
+
+use crate::marks::{begin, end, tell};
+use http_relay_dial::{DialScript, ScriptedDialer};
+use http_relay_head::HEAD_ROOM;
+use http_relay_serve::{Cause, Client, Outcome, Worker, serve_one};
+use http_relay_wire::{Script, ScriptedWire};
+use lb_config::{Config, read_config};
+use lb_desk_model::{Entry, Reply, ServedAs};
+use lb_desk_ports::{
+    Asked, Filed, OpenGate, PortScript, Refused, ScriptedClock, ScriptedPort, Shut,
+};
+use lb_routes::ConfigRoutes;
+use lb_types::ServerId;
+use std::alloc::Global;
+use std::net::Ipv4Addr;
+use std::slice;
+use std::test::Fail;
+
+const TEXT: &[u8] = b"frontend f
+    bind 127.0.0.1:8000
+    default_backend web
+backend web
+    stick-table type string size 10
+    stick on hdr(x-id)
+    server a 127.0.0.1:8001
+";
+
+const UPLOAD: &[u8] =
+    b"POST /up HTTP/1.1\r\nHost: x\r\nX-Id: k1\r\nTransfer-Encoding: chunked\r\n\r\n\
+    10\r\n0123456789abcdef\r\n0\r\n\r\n";
+
+const SENT: &[u8] =
+    b"POST /up HTTP/1.1\r\nHost: x\r\nX-Id: k1\r\nTransfer-Encoding: chunked\r\nConnection: close\r\n\r\n\
+    10\r\n0123456789abcdef\r\n0\r\n\r\n";
+
+const RESPONSE: &[u8] = b"HTTP/1.1 200 OK\r\n\r\nok";
+
+const INTERNAL_SERVER_ERROR: &[u8] =
+    b"HTTP/1.1 500 Internal Server Error\r\nContent-Length: 0\r\nConnection: close\r\n\r\n";
+
+/// A backend that gives each request its one server.
+fn port() -> PortScript<'static> {
+    PortScript {
+        asked: Asked::Served(ServerId::new(0), ServedAs::Made),
+        openings: &[],
+        shut: Shut::Closed,
+        filed: Filed::NotChecked,
+        refusing: None,
+    }
+}
+
+/// What became of the upload, what its client got, and what its server got, if that is known.
+#[derive(Drop)]
+struct Served {
+    outcome: Outcome,
+    answer: Vec<u8>,
+    sent: Option<Vec<u8>>,
+    is_slot_back: bool,
+}
+
+/// Relays the upload. The call is marked.
+fn serve<R>(rt: &R, alloc: Global, config: &Config) -> Result<Served, Fail> {
+    let Some(routes) = ConfigRoutes::at(config, 0) else {
+        return Err(Fail::new("no frontend"));
+    };
+    let server: DialScript<'_> = Ok((RESPONSE, Script::SMOOTH));
+    let mut worker = Worker {
+        clock: ScriptedClock::new(alloc, 7),
+        gate: OpenGate,
+        dialer: ScriptedDialer::new(alloc, slice::from_ref(&server)),
+    };
+    let mut client = Client {
+        wire: ScriptedWire::new(alloc, UPLOAD, Script::SMOOTH),
+        source: Ipv4Addr::new(10, 0, 0, 7),
+    };
+    let script = port();
+    let mut ports = vec![in alloc; ScriptedPort::new(alloc, &script)]?;
+    let mut room = [0; HEAD_ROOM];
+    if config.backends().len() > ports.len() {
+        return Err(Fail::new("several backends"));
+    }
+    begin(alloc)?;
+    let outcome = serve_one(
+        rt,
+        alloc,
+        &mut worker,
+        &routes,
+        &mut ports,
+        &mut client,
+        &mut room,
+    );
+    end(alloc)?;
+    Ok(Served {
+        outcome,
+        answer: Vec::from_slice(alloc, client.wire.written())?,
+        sent: sent(alloc, &worker.dialer)?,
+        is_slot_back: is_slot_back(&ports),
+    })
+}
+
+/// What the one server got, if the dialer remembers.
+fn sent(alloc: Global, dialer: &ScriptedDialer<'_>) -> Result<Option<Vec<u8>>, Fail> {
+    let Some(talks) = dialer.talks() else {
+        return Ok(None);
+    };
+    match talks {
+        [talk] => Ok(Some(Vec::from_slice(alloc, talk.written())?)),
+        _ => Ok(None),
+    }
+}
+
+/// Whether the slot that the backend opened, if it did, was given back.
+fn is_slot_back(ports: &[ScriptedPort<'_>]) -> bool {
+    match ports {
+        [port] => count(port.entries(), &Reply::Opened) == count(port.entries(), &Reply::Closed),
+        _ => false,
+    }
+}
+
+fn count(entries: &[Entry], reply: &Reply) -> usize {
+    entries.iter().filter(|entry| entry.reply == *reply).count()
+}
+
+/// Whether the outcome says that memory was wanting.
+fn is_for_memory(outcome: &Outcome) -> bool {
+    match outcome {
+        Outcome::Answered(Cause::HeadMemory) => true,
+        Outcome::Answered(Cause::RequestMemory) => true,
+        Outcome::Answered(Cause::RequestRefused(Refused::Memory)) => true,
+        Outcome::Answered(Cause::OpenRefused(Refused::Memory)) => true,
+        _ => false,
+    }
+}
+
+#[test]
+fn a_chunked_upload(rt: HostRuntime) -> Result<(), Fail> {
+    let alloc = rt.alloc();
+    let config = read_config(alloc, TEXT)?;
+    let mut last = serve(&rt, alloc, &config)?;
+    assert!(rt; last.is_slot_back, "a slot is kept");
+    if is_for_memory(&last.outcome) {
+        tell(alloc)?;
+        assert!(rt;
+            last.answer.as_slice() == INTERNAL_SERVER_ERROR && last.sent.is_none(),
+            "not answered 500 before the dial"
+        );
+    }
+    if last.outcome != Outcome::Relayed {
+        last = serve(&rt, alloc, &config)?;
+    }
+    assert_eq!(rt; last.outcome, Outcome::Relayed);
+    assert!(rt;
+        last.answer.as_slice() == RESPONSE && last.is_slot_back,
+        "not this response"
+    );
+    if let Some(sent) = &last.sent {
+        assert!(rt; sent.as_slice() == SENT, "not this upload");
+    }
+    Ok(())
+}

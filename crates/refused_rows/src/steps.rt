@@ -1,0 +1,246 @@
+//! Each event at a desk that has four pins, two of them at a server that is to be left.
+
+use crate::farm::{A, B, C, FIRST, Hasher, TWO_MOVED, farm, request, server};
+use crate::marks::{begin, end, tell};
+use dual_cert::{read_plan, read_sheet};
+use lb_desk_model::{Entry, Event, Refusal, Reply, ServedAs, Shared, TablePin};
+use lb_desk_ports::Refused;
+use lb_desk_step::Desk;
+use lb_types::Moment;
+use rise_fall::Flip;
+use server_state::{AdminState, Change, Checked, Setting};
+use std::alloc::Global;
+use std::hash::{BuildHasherDefault, FoldHasher};
+use std::process::Abort;
+use std::test::Fail;
+
+/// As many entries as the desk has when a test begins: the next one pushes out the first.
+const JOURNAL: u32 = 6;
+
+/// What the desk's pins are as a sheet. Each pin that was made and the server that is to be left changed the view once.
+const SHEET: &[u8] = b"stickysheet 1
+version 5
+server a off
+server b cap 2
+server c cap 2
+group 2 a b,c
+group 1 b b,c
+group 1 c b,c
+end
+";
+
+/// A best plan for that sheet.
+const PLAN: &[u8] = b"stickyplan 1
+version 5
+server a off
+server b cap 2 price 0
+server c cap 2 price 0
+row 1 a b b,c
+row 1 a c b,c
+row 1 b b b,c
+row 1 c c b,c
+end
+";
+
+/// What a call that is refused leaves as it was.
+#[derive(Drop)]
+struct Stand {
+    pins: Vec<TablePin>,
+    entries: Vec<Entry>,
+    forgotten: u64,
+    version: u64,
+}
+
+impl Stand {
+    fn of(alloc: Global, desk: &Desk<Hasher>) -> Result<Stand, Fail> {
+        let mut entries = Vec::new(alloc);
+        for entry in desk.journal().iter() {
+            entries.push(entry.clone()?)?;
+        }
+        Ok(Stand {
+            pins: desk.table_rows(alloc)?,
+            entries,
+            forgotten: desk.journal_first(),
+            version: desk.version(),
+        })
+    }
+
+    fn is(&self, other: &Stand) -> bool {
+        self.pins == other.pins
+            && self.entries == other.entries
+            && self.forgotten == other.forgotten
+            && self.version == other.version
+    }
+}
+
+/// A desk with pins at a, b, c and a, of which a is to be left. The first pin was used once more.
+fn desk(alloc: Global) -> Result<Desk<Hasher>, Fail> {
+    let hasher = BuildHasherDefault::<FoldHasher>::new();
+    let backend = farm(alloc)?;
+    let mut desk = Desk::open(alloc, &backend, JOURNAL, hasher)?;
+    for (moment, key) in FIRST.iter().enumerate() {
+        desk.step(Event::Serve(request(alloc, moment as u64, *key)?))?;
+    }
+    desk.step(set_a(AdminState::Drain))?;
+    desk.step(Event::Serve(request(alloc, 4, "k1")?))?;
+    Ok(desk)
+}
+
+/// An operator's change of a.
+fn set_a(state: AdminState) -> Event {
+    Event::Command(Change {
+        server: server(A),
+        setting: Setting::Admin(state),
+    })
+}
+
+/// Hands in the event, and where memory for it is wanting once more. The reply is the one that is owed.
+fn takes(
+    rt: &impl Abort,
+    alloc: Global,
+    mut desk: Desk<Hasher>,
+    event: Event,
+    owed: &Reply,
+) -> Result<(), Fail> {
+    let again = event.clone()?;
+    let before = Stand::of(alloc, &desk)?;
+    begin(alloc)?;
+    let told = desk.step(event);
+    end(alloc)?;
+    let reply = match told {
+        Ok(reply) => reply,
+        Err(refused) => {
+            is_as_before(rt, alloc, &desk, &before, refused)?;
+            desk.step(again)?
+        }
+    };
+    assert_eq!(rt; reply, *owed);
+    Ok(())
+}
+
+fn is_as_before(
+    rt: &impl Abort,
+    alloc: Global,
+    desk: &Desk<Hasher>,
+    before: &Stand,
+    refused: Refused,
+) -> Result<(), Fail> {
+    tell(alloc)?;
+    assert_eq!(rt; refused, Refused::Memory);
+    assert!(rt;
+        Stand::of(alloc, desk)?.is(before),
+        "a refused call changed something"
+    );
+    Ok(())
+}
+
+#[test]
+fn a_request_that_makes_a_pin(rt: HostRuntime) -> Result<(), Fail> {
+    let alloc = rt.alloc();
+    let event = Event::Serve(request(alloc, 5, "k5")?);
+    let owed = Reply::Served(server(B), ServedAs::Made);
+    takes(&rt, alloc, desk(alloc)?, event, &owed)
+}
+
+#[test]
+fn a_request_that_keeps_its_pin(rt: HostRuntime) -> Result<(), Fail> {
+    let alloc = rt.alloc();
+    let event = Event::Serve(request(alloc, 5, "k1")?);
+    let owed = Reply::Served(server(A), ServedAs::Kept);
+    takes(&rt, alloc, desk(alloc)?, event, &owed)
+}
+
+#[test]
+fn a_request_that_moves_its_pin(rt: HostRuntime) -> Result<(), Fail> {
+    let alloc = rt.alloc();
+    let mut desk = desk(alloc)?;
+    desk.step(set_a(AdminState::Maint))?;
+    let event = Event::Serve(request(alloc, 5, "k1")?);
+    let owed = Reply::Served(server(B), ServedAs::Moved);
+    takes(&rt, alloc, desk, event, &owed)
+}
+
+// None of these needs memory. An Expire comes ten seconds after the last use of k2, k3 and k4, and a millisecond before those of k1
+// are over. A server that has had no check is one failure from down.
+#[test]
+fn events_that_need_no_memory(rt: HostRuntime) -> Result<(), Fail> {
+    let alloc = rt.alloc();
+    let open = Event::Open(server(B));
+    takes(&rt, alloc, desk(alloc)?, open, &Reply::Opened)?;
+    let mut connected = desk(alloc)?;
+    connected.step(Event::Open(server(B)))?;
+    let close = Event::Close(server(B));
+    takes(&rt, alloc, connected, close, &Reply::Closed)?;
+    let expire = Event::Expire(Moment::from_millis(10003));
+    takes(&rt, alloc, desk(alloc)?, expire, &Reply::Expired(3))?;
+    let checked = Reply::Checked(Checked::Took(Flip::WentDown));
+    let check = Event::Check(server(B), false);
+    takes(&rt, alloc, desk(alloc)?, check, &checked)?;
+    let command = set_a(AdminState::Maint);
+    takes(&rt, alloc, desk(alloc)?, command, &Reply::Done)
+}
+
+#[test]
+fn a_sheet(rt: HostRuntime) -> Result<(), Fail> {
+    let alloc = rt.alloc();
+    let owed = Reply::Sheet(Shared::new(alloc, read_sheet(alloc, SHEET)?)?);
+    takes(&rt, alloc, desk(alloc)?, Event::Snapshot, &owed)
+}
+
+fn install(alloc: Global) -> Result<Event, Fail> {
+    let plan = read_plan(alloc, PLAN)?;
+    Ok(Event::Install(Shared::new(alloc, plan)?))
+}
+
+#[test]
+fn the_install_of_a_plan(rt: HostRuntime) -> Result<(), Fail> {
+    let alloc = rt.alloc();
+    takes(
+        &rt,
+        alloc,
+        desk(alloc)?,
+        install(alloc)?,
+        &Reply::Installed(TWO_MOVED),
+    )
+}
+
+// Where the install is refused b and c have one pin each, and get one more. Else they have two each, and a is left.
+#[test]
+fn room_behind_an_install(rt: HostRuntime) -> Result<(), Fail> {
+    let alloc = rt.alloc();
+    let mut desk = desk(alloc)?;
+    let event = install(alloc)?;
+    begin(alloc)?;
+    let told = desk.step(event);
+    end(alloc)?;
+    let mut owed = vec![in alloc; Reply::Refused(Refusal::NoServer)]?;
+    if told.is_err() {
+        tell(alloc)?;
+        owed.insert(0, Reply::Served(server(C), ServedAs::Made))?;
+        owed.insert(0, Reply::Served(server(B), ServedAs::Made))?;
+    }
+    for (key, owed) in ["k5", "k6", "k7"].iter().zip(&owed) {
+        let reply = desk.step(Event::Serve(request(alloc, 5, *key)?))?;
+        assert_eq!(rt; reply, *owed);
+    }
+    Ok(())
+}
+
+#[test]
+fn a_plan_at_once(rt: HostRuntime) -> Result<(), Fail> {
+    let alloc = rt.alloc();
+    let mut desk = desk(alloc)?;
+    let before = Stand::of(alloc, &desk)?;
+    begin(alloc)?;
+    let told = desk.plan_now();
+    end(alloc)?;
+    let score = match told {
+        Ok(score) => score,
+        Err(refused) => {
+            is_as_before(&rt, alloc, &desk, &before, refused)?;
+            desk.plan_now()?
+        }
+    };
+    assert_eq!(rt; score, TWO_MOVED);
+    Ok(())
+}
