@@ -4,8 +4,8 @@
 //! pins are made, each of which purges the oldest; then the counts are walked over, of 1,000 kinds where there are pins enough.
 //! Memory is what the process has more than before the growth. Last, a table grows under the hasher of fixed seed.
 
+use crate::{Times, drawn_names, grown, names, resident, tell_clock};
 use anyhow::Result;
-use bench_parts::{Times, drawn_names, grown, names, resident, tell_clock};
 use lb_desk_model::TableSettings;
 use lb_types::{Moment, ServerId};
 use pin_set::PinId;
@@ -27,7 +27,8 @@ const COSTS: u32 = 8;
 /// More than a table is used here.
 const MANY: u64 = 1 << 40;
 
-pub(crate) fn run(rt: &(impl Runtime + RandomSource), alloc: Global, pins: u32) -> Result<()> {
+/// Times the calls of a table of so many pins.
+pub fn measure_table(rt: &(impl Runtime + RandomSource), alloc: Global, pins: u32) -> Result<()> {
     tell_clock(rt)?;
     use_table(rt, alloc, RandomState::new(rt)?, pins)?;
     grow_unseeded(rt, alloc, pins)

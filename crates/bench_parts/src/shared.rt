@@ -1,0 +1,288 @@
+//! One desk that many threads use: how many whole requests a second, how long a call takes that waits for nobody, and how long others
+//! wait while all pins and the journal are copied.
+//!
+//! A whole request is an Expire and a Serve, which are one call here, an Open and a Close. Requests are made beforehand, and so are
+//! their pins.
+ghost use Rattle.std.specs.Prelude.{◌≡◌};
+
+use crate::farm::{backend, request};
+use crate::numbered::drawn;
+use crate::{Times, tell_clock};
+use anyhow::{Context, Result};
+use lb_desk_model::{Backend, Entry, Request, ServedAs};
+use lb_desk_ports::{Asked, Opening, Port, Refused};
+use lb_desk_seat::Seat;
+use lb_desk_shared::{Naming, SharedDesk};
+use lb_desk_step::Desk;
+use lb_desk_tie::Opened;
+use std::alloc::{AllocError, Global};
+use std::hash::{BuildHasher, RandomState};
+use std::marker::Brand;
+use std::random::RandomSource;
+use std::rt::{Clock, Runtime};
+use std::sync::Wait;
+use std::thread::{Threads, map_vec};
+use std::time::Instant;
+
+const THREADS: u32 = 8;
+
+/// How many entries the desk keeps: as many as by default.
+const JOURNAL: u32 = 100_000;
+
+/// What a thread does at the desk.
+#[derive(Drop)]
+enum Job {
+    /// Serves these requests.
+    Serve(Vec<Request>),
+    /// Copies all pins, and then the journal.
+    Copy,
+}
+
+/// What a thread did.
+#[derive(Debug, Drop)]
+struct Work {
+    kept: u64,
+    copied: usize,
+    /// The calls that others wait for, or that wait for others.
+    asks: Times,
+    opens: Times,
+    shuts: Times,
+    copies: Times,
+}
+
+impl Work {
+    fn none() -> Self {
+        Work {
+            kept: 0,
+            copied: 0,
+            asks: Times::none(),
+            opens: Times::none(),
+            shuts: Times::none(),
+            copies: Times::none(),
+        }
+    }
+}
+
+/// Times one desk of so many pins, at which each of 8 threads makes so many requests.
+pub fn measure_shared<R: Runtime + Threads + Wait + RandomSource + Sync>(
+    rt: &R,
+    alloc: Global,
+    pins: u32,
+    requests: u32,
+) -> Result<()> {
+    tell_clock(rt)?;
+    let backend = backend(alloc, pins)?;
+    let opened = Opened::new(alloc)?;
+    let hasher = RandomState::new(rt)?;
+    share::<Brand, RandomState, R>(rt, alloc, opened, &backend, hasher, pins, requests)
+}
+
+/// The same, with a desk whose name is picked.
+fn share<
+    B: Naming + Send + Sync,
+    S: BuildHasher + Drop + Send + Sync,
+    R: Runtime + Threads + Wait + Sync,
+>(
+    rt: &R,
+    alloc: Global,
+    opened: Opened<Entry>,
+    backend: &Backend,
+    hasher: S,
+    pins: u32,
+    requests: u32,
+) -> Result<()>
+    requires table { opened ≡ B.table_of 0 }
+    requires opening { B.opening 0 ≡ backend.now }
+{
+    let desk = Desk::open(alloc, backend, JOURNAL, hasher)?;
+    let desk = SharedDesk::<S, B>::of(opened, 0, desk);
+    make_pins(rt, alloc, &desk, pins)?;
+    serve_alone(rt, alloc, &desk, pins, requests)?;
+    serve_together(rt, alloc, &desk, pins, requests)?;
+    serve_beside_copies(rt, alloc, &desk, pins, requests)
+}
+
+/// Makes the pins.
+fn make_pins<S: BuildHasher, B: Naming, R: Wait>(
+    rt: &R,
+    alloc: Global,
+    desk: &SharedDesk<S, B>,
+    pins: u32,
+) -> Result<()> {
+    let mut seat = Seat::new(alloc, desk, desk.enter(rt)?);
+    for number in 0..pins {
+        seat.ask(rt, request(alloc, number)?)?;
+    }
+    Ok(())
+}
+
+/// One thread's requests, while no other thread calls.
+fn serve_alone<S: BuildHasher, B: Naming, R: Runtime + Wait>(
+    rt: &R,
+    alloc: Global,
+    desk: &SharedDesk<S, B>,
+    pins: u32,
+    requests: u32,
+) -> Result<()> {
+    let job = Job::Serve(drawn_requests(alloc, 0, requests, pins)?);
+    let work = do_job(rt, alloc, desk, job).context("a call was refused")?;
+    println!(rt; "alone: {} kept", work.kept)?;
+    work.asks.tell(rt, "an Expire and a Serve")?;
+    work.opens.tell(rt, "an Open")?;
+    work.shuts.tell(rt, "a Close")
+}
+
+/// Requests of all threads at once.
+fn serve_together<S, B, R>(
+    rt: &R,
+    alloc: Global,
+    desk: &SharedDesk<S, B>,
+    pins: u32,
+    requests: u32,
+) -> Result<()>
+where
+    B: Naming + Send + Sync,
+    S: BuildHasher + Send + Sync,
+    R: Runtime + Threads + Wait + Sync,
+{
+    let jobs = jobs(alloc, THREADS, pins, requests)?;
+    let start = Instant::now(rt)?;
+    let works = map_vec(rt, jobs, &|job| do_job(rt, alloc, desk, job))?;
+    let micros = start.elapsed(rt)?.as_micros();
+    let mut kept: u64 = 0;
+    for found in works {
+        let work = found.context("a call was refused")?;
+        kept = kept.saturating_add(work.kept);
+    }
+    println!(rt; "{THREADS} threads: {kept} kept")?;
+    let rate = u128::from(kept)
+        .saturating_mul(1_000_000)
+        .checked_div(micros);
+    eprintln!(rt;
+        "{THREADS} threads: {} requests a second",
+        rate.unwrap_or(0)
+    )?;
+    Ok(())
+}
+
+/// Requests of all threads but one, which copies all pins and the journal.
+fn serve_beside_copies<S, B, R>(
+    rt: &R,
+    alloc: Global,
+    desk: &SharedDesk<S, B>,
+    pins: u32,
+    requests: u32,
+) -> Result<()>
+where
+    B: Naming + Send + Sync,
+    S: BuildHasher + Send + Sync,
+    R: Runtime + Threads + Wait + Sync,
+{
+    let mut jobs = jobs(alloc, THREADS.saturating_sub(1), pins, requests)?;
+    jobs.push(Job::Copy)?;
+    let works = map_vec(rt, jobs, &|job| do_job(rt, alloc, desk, job))?;
+    let mut kept: u64 = 0;
+    let mut copied: usize = 0;
+    for found in works {
+        let work = found.context("a call was refused")?;
+        kept = kept.saturating_add(work.kept);
+        copied = copied.max(work.copied);
+        if work.copied > 0 {
+            work.copies
+                .tell(rt, "a copy of all pins, or of the journal")?;
+        } else {
+            work.asks.tell(rt, "an Expire and a Serve beside copies")?;
+        }
+    }
+    println!(rt; "beside copies: {kept} kept, {copied} pins copied")?;
+    Ok(())
+}
+
+/// So many threads' requests.
+fn jobs(alloc: Global, threads: u32, pins: u32, requests: u32) -> Result<Vec<Job>, AllocError> {
+    let mut jobs = Vec::with_capacity(alloc, threads as usize)?;
+    for thread in 0..threads {
+        let first = thread.saturating_mul(requests);
+        jobs.push(Job::Serve(drawn_requests(alloc, first, requests, pins)?))?;
+    }
+    Ok(jobs)
+}
+
+/// So many requests with keys drawn from those of the pins.
+fn drawn_requests(
+    alloc: Global,
+    first: u32,
+    count: u32,
+    pins: u32,
+) -> Result<Vec<Request>, AllocError> {
+    let mut requests = Vec::with_capacity(alloc, count as usize)?;
+    for draw in first..first.saturating_add(count) {
+        requests.push(request(alloc, drawn(draw, pins))?)?;
+    }
+    Ok(requests)
+}
+
+/// Does the job. None where a call was refused, or the clock can't be read.
+fn do_job<S: BuildHasher, B: Naming, R: Wait + Clock>(
+    rt: &R,
+    alloc: Global,
+    desk: &SharedDesk<S, B>,
+    job: Job,
+) -> Option<Work> {
+    let mut seat = Seat::new(alloc, desk, desk.enter(rt).ok()?);
+    let mut work = Work::none();
+    match job {
+        Job::Serve(requests) => {
+            for request in requests {
+                serve(rt, &mut seat, request, &mut work).ok()?;
+            }
+        }
+        Job::Copy => copy(rt, alloc, desk, &mut work).ok()?,
+    }
+    Some(work)
+}
+
+/// One whole request.
+fn serve<S: BuildHasher, B: Naming, R: Wait + Clock>(
+    rt: &R,
+    seat: &mut Seat<'_, S, B>,
+    request: Request,
+    work: &mut Work,
+) -> Result<()> {
+    let start = Instant::now(rt)?;
+    let asked = seat.ask(rt, request)?;
+    work.asks.add(rt, start)?;
+    let Asked::Served(server, how) = asked else {
+        return Ok(());
+    };
+    work.kept = work.kept.saturating_add(u64::from(how == ServedAs::Kept));
+    let start = Instant::now(rt)?;
+    let opening = seat.open(rt, server)?;
+    if let Opening::Opened(slot) = opening {
+        let opened = work.opens.add(rt, start);
+        let start = Instant::now(rt);
+        seat.shut(rt, slot)?;
+        opened?;
+        work.shuts.add(rt, start?)?;
+    }
+    Ok(())
+}
+
+/// Copies all pins, and then the journal.
+fn copy<S: BuildHasher, B: Naming, R: Wait + Clock>(
+    rt: &R,
+    alloc: Global,
+    desk: &SharedDesk<S, B>,
+    work: &mut Work,
+) -> Result<()> {
+    let start = Instant::now(rt)?;
+    let rows = desk.rows(rt, alloc)?;
+    work.copies.add(rt, start)?;
+    work.copied = rows.len();
+    drop(rows);
+    let start = Instant::now(rt)?;
+    let entries = desk.entries(rt, alloc)?;
+    work.copies.add(rt, start)?;
+    drop(entries);
+    Ok(())
+}
