@@ -1,9 +1,9 @@
 //! The events of a running desk, each timed by itself, with requests made beforehand and a seeded hasher.
 //!
-//! A desk's table grows from empty to so many pins; then it serves requests whose pins it has, alone and with the three events round
-//! each; then as many requests with new keys, each of which purges the oldest pin. Then come sheets of 1,000 kinds at 128 servers, a
-//! server is drained and the plan installed that moves its pins, and in the end all pins expire at once. Last, another desk's journal
-//! is filled, whose memory is what the process has more than before.
+//! First the journal of a small desk is filled, whose memory is what the process has more than before: later there would be memory
+//! that others gave back. Then another desk's table grows from empty to so many pins; it serves requests whose pins it has, alone and
+//! with the three events round each; then as many requests with new keys, each of which purges the oldest pin. Then come sheets of
+//! 1,000 kinds at 128 servers, a server is drained and the plan installed that moves its pins, and in the end all pins expire at once.
 
 use crate::farm::{EXPIRE, backend, drawn_requests, requests};
 use crate::{Times, grown, resident, tell_clock};
@@ -73,6 +73,7 @@ pub fn measure_desk<R: Runtime + RandomSource>(
 ) -> Result<()> {
     tell_clock(rt)?;
     let hasher = RandomState::new(rt)?;
+    fill_journal(rt, alloc, hasher, entries)?;
     let mut desk = Desk::open(alloc, &backend(alloc, pins)?, JOURNAL, hasher)?;
     serve_new(rt, alloc, &mut desk, 0, pins, "made, from empty on")?;
     serve_known(rt, alloc, &mut desk, pins)?;
@@ -80,9 +81,7 @@ pub fn measure_desk<R: Runtime + RandomSource>(
     serve_new(rt, alloc, &mut desk, pins, pins, "made, with a purge")?;
     take_sheets(rt, &mut desk)?;
     move_pins(rt, alloc, &mut desk)?;
-    expire_all(rt, &mut desk)?;
-    drop(desk);
-    fill_journal(rt, alloc, hasher, entries)
+    expire_all(rt, &mut desk)
 }
 
 /// Requests with new keys, from the first number on.

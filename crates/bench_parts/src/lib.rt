@@ -15,7 +15,7 @@ mod times;
 
 pub use desk::measure_desk;
 pub use memory::{grown, resident};
-pub use numbered::{drawn, drawn_names, name, names};
+pub use numbered::{drawn, drawn_names, hashes, name, names, set_of_one_hash};
 pub use shared::measure_shared;
 pub use table::measure_table;
 pub use times::{Times, tell_clock};

@@ -1,15 +1,15 @@
 //! One desk that many threads use: how many whole requests a second, how long a call takes that waits for nobody, and how long others
 //! wait while all pins and the journal are copied.
 //!
-//! A whole request is an Expire and a Serve, which are one call here, an Open and a Close. Requests are made beforehand, and so are
-//! their pins.
+//! A whole request is an Expire, a Serve, an Open and a Close. Requests are made beforehand, and so are their pins. Alone each of the
+//! four is timed by itself; threads that call at once ask as the balancer does, for the first two together.
 ghost use Rattle.std.specs.Prelude.{◌≡◌};
 
 use crate::farm::{backend, request};
 use crate::numbered::drawn;
 use crate::{Times, tell_clock};
 use anyhow::{Context, Result};
-use lb_desk_model::{Backend, Entry, Request, ServedAs};
+use lb_desk_model::{Backend, Entry, Event, Reply, Request, ServedAs};
 use lb_desk_ports::{Asked, Opening, Port, Refused};
 use lb_desk_seat::Seat;
 use lb_desk_shared::{Naming, SharedDesk};
@@ -43,11 +43,19 @@ enum Job {
 struct Work {
     kept: u64,
     copied: usize,
-    /// The calls that others wait for, or that wait for others.
+    /// How long it took until a server was told, and the copies.
     asks: Times,
-    opens: Times,
-    shuts: Times,
-    copies: Times,
+    rows: Times,
+    entries: Times,
+}
+
+/// How long the four events of requests took, each by itself.
+#[derive(Debug, Drop)]
+struct FourTimes {
+    expire: Times,
+    serve: Times,
+    open: Times,
+    close: Times,
 }
 
 impl Work {
@@ -56,9 +64,8 @@ impl Work {
             kept: 0,
             copied: 0,
             asks: Times::none(),
-            opens: Times::none(),
-            shuts: Times::none(),
-            copies: Times::none(),
+            rows: Times::none(),
+            entries: Times::none(),
         }
     }
 }
@@ -116,7 +123,7 @@ fn make_pins<S: BuildHasher, B: Naming, R: Wait>(
     Ok(())
 }
 
-/// One thread's requests, while no other thread calls.
+/// One thread's requests, while no other thread calls: how long each of their events takes.
 fn serve_alone<S: BuildHasher, B: Naming, R: Runtime + Wait>(
     rt: &R,
     alloc: Global,
@@ -124,12 +131,54 @@ fn serve_alone<S: BuildHasher, B: Naming, R: Runtime + Wait>(
     pins: u32,
     requests: u32,
 ) -> Result<()> {
-    let job = Job::Serve(drawn_requests(alloc, 0, requests, pins)?);
-    let work = do_job(rt, alloc, desk, job).context("a call was refused")?;
-    println!(rt; "alone: {} kept", work.kept)?;
-    work.asks.tell(rt, "an Expire and a Serve")?;
-    work.opens.tell(rt, "an Open")?;
-    work.shuts.tell(rt, "a Close")
+    let mut times = FourTimes {
+        expire: Times::none(),
+        serve: Times::none(),
+        open: Times::none(),
+        close: Times::none(),
+    };
+    let mut kept: u64 = 0;
+    for request in drawn_requests(alloc, 0, requests, pins)? {
+        let how = tell_four(rt, desk, request, &mut times)?;
+        kept = kept.saturating_add(u64::from(how == Some(ServedAs::Kept)));
+    }
+    println!(rt; "alone: {kept} kept")?;
+    times.expire.tell(rt, "an Expire")?;
+    times.serve.tell(rt, "a Serve")?;
+    times.open.tell(rt, "an Open")?;
+    times.close.tell(rt, "a Close")
+}
+
+/// One whole request, each of its events by itself, and how it was served if it was.
+fn tell_four<S: BuildHasher, B: Naming, R: Runtime + Wait>(
+    rt: &R,
+    desk: &SharedDesk<S, B>,
+    request: Request,
+    times: &mut FourTimes,
+) -> Result<Option<ServedAs>> {
+    let expiry = Event::Expire(request.moment);
+    tell_event(rt, desk, expiry, &mut times.expire)?;
+    let reply = tell_event(rt, desk, Event::Serve(request), &mut times.serve)?;
+    let Reply::Served(server, how) = reply else {
+        return Ok(None);
+    };
+    tell_event(rt, desk, Event::Open(server), &mut times.open)?;
+    tell_event(rt, desk, Event::Close(server), &mut times.close)?;
+    Ok(Some(how))
+}
+
+/// Takes one event to the desk. The pass for it is made beforehand, and stays out.
+fn tell_event<S: BuildHasher, B: Naming, R: Runtime + Wait>(
+    rt: &R,
+    desk: &SharedDesk<S, B>,
+    event: Event,
+    times: &mut Times,
+) -> Result<Reply> {
+    let mut pass = desk.enter(rt)?;
+    let start = Instant::now(rt)?;
+    let told = desk.tell(rt, &mut pass, event)?;
+    times.add(rt, start)?;
+    Ok(told.reply)
 }
 
 /// Requests of all threads at once.
@@ -188,8 +237,8 @@ where
         kept = kept.saturating_add(work.kept);
         copied = copied.max(work.copied);
         if work.copied > 0 {
-            work.copies
-                .tell(rt, "a copy of all pins, or of the journal")?;
+            work.rows.tell(rt, "a copy of all pins")?;
+            work.entries.tell(rt, "a copy of the journal")?;
         } else {
             work.asks.tell(rt, "an Expire and a Serve beside copies")?;
         }
@@ -256,14 +305,8 @@ fn serve<S: BuildHasher, B: Naming, R: Wait + Clock>(
         return Ok(());
     };
     work.kept = work.kept.saturating_add(u64::from(how == ServedAs::Kept));
-    let start = Instant::now(rt)?;
-    let opening = seat.open(rt, server)?;
-    if let Opening::Opened(slot) = opening {
-        let opened = work.opens.add(rt, start);
-        let start = Instant::now(rt);
+    if let Opening::Opened(slot) = seat.open(rt, server)? {
         seat.shut(rt, slot)?;
-        opened?;
-        work.shuts.add(rt, start?)?;
     }
     Ok(())
 }
@@ -277,12 +320,12 @@ fn copy<S: BuildHasher, B: Naming, R: Wait + Clock>(
 ) -> Result<()> {
     let start = Instant::now(rt)?;
     let rows = desk.rows(rt, alloc)?;
-    work.copies.add(rt, start)?;
+    work.rows.add(rt, start)?;
     work.copied = rows.len();
     drop(rows);
     let start = Instant::now(rt)?;
     let entries = desk.entries(rt, alloc)?;
-    work.copies.add(rt, start)?;
+    work.entries.add(rt, start)?;
     drop(entries);
     Ok(())
 }

@@ -1,15 +1,12 @@
 //! The running desk and the plain machine, asked for the same.
 
 use anyhow::Result;
-use lb_desk_model::{Backend, Event, Reply};
+use lb_desk_model::{Backend, Entry, Event, Reply};
 use lb_desk_plain::Machine;
 use lb_desk_step::Desk;
 use lb_types::Place;
 use std::alloc::Global;
 use std::hash::BuildHasher;
-
-/// How many of the newest entries the desk keeps.
-const JOURNAL: u32 = 16;
 
 /// In what the two differ.
 #[derive(Clone, Copy, Debug, PartialEq, Eq)]
@@ -22,6 +19,8 @@ pub enum Difference {
     Places,
     /// In their pins, or in the order of these.
     Pins,
+    /// The desk's journal doesn't keep the newest of the events with the machine's replies, or numbers them otherwise.
+    Journal,
 }
 
 /// One backend twice: as it runs, and in its plainest form.
@@ -29,14 +28,17 @@ pub enum Difference {
 pub struct Pair<S: BuildHasher> {
     desk: Desk<S>,
     machine: Machine,
+    /// All events so far, with the machine's replies.
+    log: Vec<Entry>,
 }
 
 impl<S: BuildHasher + Drop> Pair<S> {
-    /// Both at their opening.
-    pub fn open(alloc: Global, backend: &Backend, hasher: S) -> Result<Self> {
+    /// Both at their opening. The desk keeps so many of the newest entries, or one where that is 0.
+    pub fn open(alloc: Global, backend: &Backend, journal: u32, hasher: S) -> Result<Self> {
         Ok(Pair {
-            desk: Desk::open(alloc, backend, JOURNAL, hasher)?,
+            desk: Desk::open(alloc, backend, journal.max(1), hasher)?,
             machine: Machine::open(alloc, backend)?,
+            log: Vec::new(alloc),
         })
     }
 
@@ -58,6 +60,10 @@ impl<S: BuildHasher + Drop> Pair<S> {
         } else {
             None
         };
+        self.log.push(Entry {
+            event: event.clone()?,
+            reply: plain,
+        })?;
         Ok((reply, difference))
     }
 
@@ -81,5 +87,15 @@ impl<S: BuildHasher + Drop> Pair<S> {
     pub fn have_same_pins(&self, alloc: Global) -> Result<bool> {
         let rows = self.desk.table_rows(alloc)?;
         Ok(rows.as_slice() == self.machine.state().pins())
+    }
+    /// Whether the desk's journal is the end of the log of all events, as long as it may be.
+    pub fn has_journal(&self) -> bool {
+        let journal = self.desk.journal();
+        let kept = self.log.len().min(journal.capacity());
+        let forgotten = self.log.len().saturating_sub(kept);
+        let newest = self.log.get(forgotten..).unwrap_or(&[]);
+        journal.len() == kept
+            && journal.first() == forgotten as u64
+            && journal.iter().zip(newest).all(|(own, wanted)| own == wanted)
     }
 }

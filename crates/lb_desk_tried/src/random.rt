@@ -9,8 +9,12 @@ use std::hash::BuildHasher;
 /// How many events each farm gets.
 const EVENTS: u64 = 400;
 
-/// All pins are compared behind so many events, and behind each install.
+/// All pins and the journal are compared behind so many events, and behind each install.
 const ROWS: u64 = 16;
+
+/// How many entries the desks' journals keep: one or two, more than is looked at between two comparisons and fewer than there are
+/// events, or all.
+const JOURNALS: [u32; 4] = [1, 2, 37, 1000];
 
 /// What was tried.
 #[derive(Debug, Drop)]
@@ -61,7 +65,8 @@ fn try_farm<S: BuildHasher + Drop + Copy>(
     };
     let backend = backend_in(alloc, &text)?;
     let mut events = Events::new(seed, backend.servers().len(), costs);
-    let mut pair = Pair::open(alloc, &backend, hasher)?;
+    let journal = JOURNALS[(seed % 4) as usize];
+    let mut pair = Pair::open(alloc, &backend, journal, hasher)?;
     tried.farms = tried.farms.saturating_add(1);
     for number in 0..EVENTS {
         let event = events.next(alloc, pair.version())?;
@@ -69,12 +74,10 @@ fn try_farm<S: BuildHasher + Drop + Copy>(
         events.learn(&reply)?;
         tried.events = tried.events.saturating_add(1);
         tried.kinds.add(&event, &reply);
-        let looks = number % ROWS == 0 || is_installed(&reply);
-        let differ = looks && difference.is_none() && !pair.have_same_pins(alloc)?;
-        let difference = if differ {
-            Some(Difference::Pins)
-        } else {
-            difference
+        let looks = number % ROWS == 0 || number.saturating_add(1) == EVENTS || is_installed(&reply);
+        let difference = match difference {
+            None if looks => hidden_difference(alloc, &pair)?,
+            found => found,
         };
         if let Some(difference) = difference {
             tried.found = Some(told(alloc, &text, number, &event, difference)?);
@@ -82,6 +85,20 @@ fn try_farm<S: BuildHasher + Drop + Copy>(
         }
     }
     Ok(())
+}
+
+/// In what the two differ that no reply shows.
+fn hidden_difference<S: BuildHasher + Drop>(
+    alloc: Global,
+    pair: &Pair<S>,
+) -> Result<Option<Difference>> {
+    if !pair.have_same_pins(alloc)? {
+        return Ok(Some(Difference::Pins));
+    }
+    if !pair.has_journal() {
+        return Ok(Some(Difference::Journal));
+    }
+    Ok(None)
 }
 
 fn is_installed(reply: &Reply) -> bool {

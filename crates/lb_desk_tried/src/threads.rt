@@ -27,8 +27,15 @@ const FARM: &str = "backend web
   server s3 127.0.0.1:80 backup
 ";
 
-/// How many entries more than calls a journal keeps, since some calls make two.
-const MORE: u64 = 1000;
+/// How many entries a call makes at most: a request for a server expires pins first, and a plan made while all others wait takes a
+/// sheet first.
+const ENTRIES: u64 = 2;
+
+/// How many calls a thread makes at most beyond those that it is asked for, since a request takes up to four.
+const MORE: u64 = 3;
+
+/// How many entries a journal keeps at most. Where there are more, it is told as not whole.
+const MOST_ENTRIES: u64 = 100_000_000;
 
 /// What the threads did, and what came of it.
 #[derive(Debug, Drop)]
@@ -88,8 +95,9 @@ fn share<B: Naming + Send + Sync, R: Threads + Wait + Sync>(
     requires opening_one { B.opening 1 ≡ backend.now }
     requires opening_two { B.opening 2 ≡ backend.now }
 {
-    let all = (threads as u64).saturating_mul(calls).saturating_add(MORE);
-    let journal = (all % 100_000_000) as u32;
+    let each = calls.saturating_add(MORE).saturating_mul(ENTRIES);
+    let all = (threads as u64).saturating_mul(each);
+    let journal = (all.min(MOST_ENTRIES) % (1 << 32)) as u32;
     let desks = Desks::<B> {
         one: desk_of(alloc, opened.0, 1, backend, hasher, journal)?,
         two: desk_of(alloc, opened.1, 2, backend, hasher, journal)?,

@@ -14,7 +14,7 @@ have_same_view-requires c =
 
 pub count_step-requires : goal.count_step-requires
 count_step-requires c =
-    let kept = does-version c.args.acted c.args.event.now c.args.reply.now c.args.self.now c.requires.does in
+    let kept = does-version c.args.self.now c.args.event.now c.args.reply.now c.args.acted c.requires.does in
     omega (arith, kept, c.requires.version)
 
 pub invariant_of-self : goal.invariant_of-self
