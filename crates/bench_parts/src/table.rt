@@ -53,7 +53,13 @@ fn use_table<S: BuildHasher + Drop>(
     make(rt, alloc, &mut table, (none, 0, pins), "growth")?;
     tell_memory(rt, before, pins)?;
     touch(rt, alloc, &mut table, pins)?;
-    make(rt, alloc, &mut table, (none, pins, pins), "an insert with a purge")?;
+    make(
+        rt,
+        alloc,
+        &mut table,
+        (none, pins, pins),
+        "an insert with a purge",
+    )?;
     tell_memory(rt, before, pins)?;
     count(rt, alloc, &table)
 }
@@ -85,12 +91,7 @@ fn make<S: BuildHasher + Drop>(
     for batch in 0..count.div_ceil(BATCH) {
         let made = batch.saturating_mul(BATCH);
         let number = first.saturating_add(made);
-        let names = names(
-            alloc,
-            number,
-            BATCH.min(count.saturating_sub(made)),
-            want,
-        )?;
+        let names = names(alloc, number, BATCH.min(count.saturating_sub(made)), want)?;
         make_each(rt, table, number, names, &mut times)?;
     }
     println!(rt; "{what}: {} pins", table.len())?;

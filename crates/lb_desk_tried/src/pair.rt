@@ -96,6 +96,9 @@ impl<S: BuildHasher + Drop> Pair<S> {
         let newest = self.log.get(forgotten..).unwrap_or(&[]);
         journal.len() == kept
             && journal.first() == forgotten as u64
-            && journal.iter().zip(newest).all(|(own, wanted)| own == wanted)
+            && journal
+                .iter()
+                .zip(newest)
+                .all(|(own, wanted)| own == wanted)
     }
 }

@@ -74,7 +74,9 @@ fn try_farm<S: BuildHasher + Drop + Copy>(
         events.learn(&reply)?;
         tried.events = tried.events.saturating_add(1);
         tried.kinds.add(&event, &reply);
-        let looks = number % ROWS == 0 || number.saturating_add(1) == EVENTS || is_installed(&reply);
+        let looks = number % ROWS == 0
+            || number.saturating_add(1) == EVENTS
+            || is_installed(&reply);
         let difference = match difference {
             None if looks => hidden_difference(alloc, &pair)?,
             found => found,
