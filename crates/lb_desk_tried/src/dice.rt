@@ -17,7 +17,10 @@ impl Dice {
         let once = (self.state ^ (self.state >> 30)).wrapping_mul(0xBF58_476D_1CE4_E5B9);
         let twice = (once ^ (once >> 27)).wrapping_mul(0x94D0_49BB_1331_11EB);
         let number = twice ^ (twice >> 31);
-        ((number >> 32) as u32).checked_rem(sides).unwrap_or(0)
+        u32::try_from(number >> 32)
+            .unwrap_or(0)
+            .checked_rem(sides)
+            .unwrap_or(0)
     }
 
     /// Whether it happens, as it does once in so many times.
