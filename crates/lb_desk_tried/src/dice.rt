@@ -28,10 +28,3 @@ impl Dice {
         self.roll(times) == 0
     }
 }
-
-/// A number that looks random, another one for each state.
-fn mixed(state: u64) -> u64 {
-    let once = (state ^ (state >> 30)).wrapping_mul(0xBF58_476D_1CE4_E5B9);
-    let twice = (once ^ (once >> 27)).wrapping_mul(0x94D0_49BB_1331_11EB);
-    twice ^ (twice >> 31)
-}
