@@ -16,7 +16,7 @@ use lb_desk_shared::{Naming, SharedDesk};
 use lb_desk_step::Desk;
 use lb_desk_tie::Opened;
 use std::alloc::{AllocError, Global};
-use std::hash::{BuildHasher, RandomState};
+use std::hash::RandomState;
 use std::marker::Brand;
 use std::random::RandomSource;
 use std::rt::{Clock, Runtime};
@@ -81,20 +81,16 @@ pub fn measure_shared<R: Runtime + Threads + Wait + RandomSource + Sync>(
     let backend = backend(alloc, pins)?;
     let opened = Opened::new(alloc)?;
     let hasher = RandomState::new(rt)?;
-    share::<Brand, RandomState, R>(rt, alloc, opened, &backend, hasher, pins, requests)
+    share::<Brand, R>(rt, alloc, opened, &backend, hasher, pins, requests)
 }
 
 /// The same, with a desk whose name is picked.
-fn share<
-    B: Naming + Send + Sync,
-    S: BuildHasher + Drop + Send + Sync,
-    R: Runtime + Threads + Wait + Sync,
->(
+fn share<B: Naming + Send + Sync, R: Runtime + Threads + Wait + Sync>(
     rt: &R,
     alloc: Global,
     opened: Opened<Entry>,
     backend: &Backend,
-    hasher: S,
+    hasher: RandomState,
     pins: u32,
     requests: u32,
 ) -> Result<()>
@@ -102,7 +98,7 @@ fn share<
     requires opening { B.opening 0 ≡ backend.now }
 {
     let desk = Desk::open(alloc, backend, JOURNAL, hasher)?;
-    let desk = SharedDesk::<S, B>::of(opened, 0, desk);
+    let desk = SharedDesk::<RandomState, B>::of(opened, 0, desk);
     make_pins(rt, alloc, &desk, pins)?;
     serve_alone(rt, alloc, &desk, pins, requests)?;
     serve_together(rt, alloc, &desk, pins, requests)?;
@@ -110,10 +106,10 @@ fn share<
 }
 
 /// Makes the pins.
-fn make_pins<S: BuildHasher, B: Naming, R: Wait>(
+fn make_pins<B: Naming, R: Wait>(
     rt: &R,
     alloc: Global,
-    desk: &SharedDesk<S, B>,
+    desk: &SharedDesk<RandomState, B>,
     pins: u32,
 ) -> Result<()> {
     let mut seat = Seat::new(alloc, desk, desk.enter(rt)?);
@@ -124,10 +120,10 @@ fn make_pins<S: BuildHasher, B: Naming, R: Wait>(
 }
 
 /// One thread's requests, while no other thread calls: how long each of their events takes.
-fn serve_alone<S: BuildHasher, B: Naming, R: Runtime + Wait>(
+fn serve_alone<B: Naming, R: Runtime + Wait>(
     rt: &R,
     alloc: Global,
-    desk: &SharedDesk<S, B>,
+    desk: &SharedDesk<RandomState, B>,
     pins: u32,
     requests: u32,
 ) -> Result<()> {
@@ -150,9 +146,9 @@ fn serve_alone<S: BuildHasher, B: Naming, R: Runtime + Wait>(
 }
 
 /// One whole request, each of its events by itself, and how it was served if it was.
-fn tell_four<S: BuildHasher, B: Naming, R: Runtime + Wait>(
+fn tell_four<B: Naming, R: Runtime + Wait>(
     rt: &R,
-    desk: &SharedDesk<S, B>,
+    desk: &SharedDesk<RandomState, B>,
     request: Request,
     times: &mut FourTimes,
 ) -> Result<Option<ServedAs>> {
@@ -168,9 +164,9 @@ fn tell_four<S: BuildHasher, B: Naming, R: Runtime + Wait>(
 }
 
 /// Takes one event to the desk. The pass for it is made beforehand, and stays out.
-fn tell_event<S: BuildHasher, B: Naming, R: Runtime + Wait>(
+fn tell_event<B: Naming, R: Runtime + Wait>(
     rt: &R,
-    desk: &SharedDesk<S, B>,
+    desk: &SharedDesk<RandomState, B>,
     event: Event,
     times: &mut Times,
 ) -> Result<Reply> {
@@ -182,21 +178,20 @@ fn tell_event<S: BuildHasher, B: Naming, R: Runtime + Wait>(
 }
 
 /// Requests of all threads at once.
-fn serve_together<S, B, R>(
+fn serve_together<B, R>(
     rt: &R,
     alloc: Global,
-    desk: &SharedDesk<S, B>,
+    desk: &SharedDesk<RandomState, B>,
     pins: u32,
     requests: u32,
 ) -> Result<()>
 where
     B: Naming + Send + Sync,
-    S: BuildHasher + Send + Sync,
     R: Runtime + Threads + Wait + Sync,
 {
     let jobs = jobs(alloc, THREADS, pins, requests)?;
     let start = Instant::now(rt)?;
-    let works = map_vec(rt, jobs, &|job| do_job(rt, alloc, desk, job))?;
+    let works = do_jobs(rt, alloc, desk, jobs)?;
     let micros = start.elapsed(rt)?.as_micros();
     let mut kept: u64 = 0;
     for found in works {
@@ -215,21 +210,20 @@ where
 }
 
 /// Requests of all threads but one, which copies all pins and the journal.
-fn serve_beside_copies<S, B, R>(
+fn serve_beside_copies<B, R>(
     rt: &R,
     alloc: Global,
-    desk: &SharedDesk<S, B>,
+    desk: &SharedDesk<RandomState, B>,
     pins: u32,
     requests: u32,
 ) -> Result<()>
 where
     B: Naming + Send + Sync,
-    S: BuildHasher + Send + Sync,
     R: Runtime + Threads + Wait + Sync,
 {
     let mut jobs = jobs(alloc, THREADS.saturating_sub(1), pins, requests)?;
     jobs.push(Job::Copy)?;
-    let works = map_vec(rt, jobs, &|job| do_job(rt, alloc, desk, job))?;
+    let works = do_jobs(rt, alloc, desk, jobs)?;
     let mut kept: u64 = 0;
     let mut copied: usize = 0;
     for found in works {
@@ -271,11 +265,25 @@ fn drawn_requests(
     Ok(requests)
 }
 
-/// Does the job. None where a call was refused, or the clock can't be read.
-fn do_job<S: BuildHasher, B: Naming, R: Wait + Clock>(
+/// Does each job in a thread of its own.
+fn do_jobs<B, R>(
     rt: &R,
     alloc: Global,
-    desk: &SharedDesk<S, B>,
+    desk: &SharedDesk<RandomState, B>,
+    jobs: Vec<Job>,
+) -> Result<Vec<Option<Work>>, AllocError>
+where
+    B: Naming + Send + Sync,
+    R: Clock + Threads + Wait + Sync,
+{
+    map_vec(rt, jobs, &|job| do_job(rt, alloc, desk, job))
+}
+
+/// Does the job. None where a call was refused, or the clock can't be read.
+fn do_job<B: Naming, R: Wait + Clock>(
+    rt: &R,
+    alloc: Global,
+    desk: &SharedDesk<RandomState, B>,
     job: Job,
 ) -> Option<Work> {
     let mut seat = Seat::new(alloc, desk, desk.enter(rt).ok()?);
@@ -292,9 +300,9 @@ fn do_job<S: BuildHasher, B: Naming, R: Wait + Clock>(
 }
 
 /// One whole request.
-fn serve<S: BuildHasher, B: Naming, R: Wait + Clock>(
+fn serve<B: Naming, R: Wait + Clock>(
     rt: &R,
-    seat: &mut Seat<'_, S, B>,
+    seat: &mut Seat<'_, RandomState, B>,
     request: Request,
     work: &mut Work,
 ) -> Result<()> {
@@ -312,10 +320,10 @@ fn serve<S: BuildHasher, B: Naming, R: Wait + Clock>(
 }
 
 /// Copies all pins, and then the journal.
-fn copy<S: BuildHasher, B: Naming, R: Wait + Clock>(
+fn copy<B: Naming, R: Wait + Clock>(
     rt: &R,
     alloc: Global,
-    desk: &SharedDesk<S, B>,
+    desk: &SharedDesk<RandomState, B>,
     work: &mut Work,
 ) -> Result<()> {
     let start = Instant::now(rt)?;
