@@ -1,10 +1,14 @@
-//! Names of pins, by number. Each has a key of 16 bytes that look random, and wants no server.
+//! Names of pins, by number. Each has a key of 16 bytes that look random.
 
-use lb_types::ServerSet;
+use lb_types::{ServerId, ServerSet};
 use pin_set::{KeyText, PinId, PinKey};
 use std::alloc::{AllocError, Global};
+use std::hash::{BuildHasher, BuildHasherDefault, FoldHasher};
 
-/// The name of the pin of this number.
+/// By this number the hasher of fixed seed multiplies.
+const MULTIPLIER: u64 = 0x9E37_79B9_7F4A_7C15;
+
+/// The name of the pin of this number, which wants no server.
 pub fn name(alloc: Global, number: u32) -> Result<PinId, AllocError> {
     let lower = mixed(u64::from(number));
     let bytes = (u128::from(mixed(lower)) << 64 | u128::from(lower)).to_le_bytes();
@@ -14,16 +18,46 @@ pub fn name(alloc: Global, number: u32) -> Result<PinId, AllocError> {
     })
 }
 
-/// The names of so many numbers, from the first one on.
-pub fn names(alloc: Global, first: u32, count: u32) -> Result<Vec<PinId>, AllocError> {
+/// The names of so many numbers, from the first one on, which all want these servers.
+pub fn names(
+    alloc: Global,
+    first: u32,
+    count: u32,
+    want: ServerSet,
+) -> Result<Vec<PinId>, AllocError> {
     let mut names = Vec::with_capacity(alloc, count as usize)?;
     for number in first..first.saturating_add(count) {
-        names.push(name(alloc, number)?)?;
+        let key = name(alloc, number)?.key;
+        names.push(PinId { key, want })?;
     }
     Ok(names)
 }
 
-/// The names of so many pins, drawn from all that there are. The draws have numbers, from the first one on.
+/// A set of servers with which all names have one hash under the hasher of fixed seed: the set is hashed last, as one number, of whose
+/// upper half that hasher multiplies the difference from its multiplier, and that is none here.
+pub fn set_of_one_hash() -> ServerSet {
+    let mut set = ServerSet::empty();
+    for bit in 0..64u8 {
+        if (MULTIPLIER >> bit) & 1 == 1 {
+            set = set.with(ServerId::new(64 + bit));
+        }
+    }
+    set
+}
+
+/// How many hashes the names of so many numbers have under the hasher of fixed seed, where all want these servers.
+pub fn hashes(alloc: Global, count: u32, want: ServerSet) -> Result<usize, AllocError> {
+    let hasher = BuildHasherDefault::<FoldHasher>::new();
+    let mut hashes = Vec::with_capacity(alloc, count as usize)?;
+    for name in names(alloc, 0, count, want)? {
+        hashes.push(hasher.hash_one(name))?;
+    }
+    hashes.sort_unstable();
+    hashes.dedup();
+    Ok(hashes.len())
+}
+
+/// The names of so many pins that want no server, drawn from all that there are. The draws have numbers, from the first one on.
 pub fn drawn_names(
     alloc: Global,
     first: u32,

@@ -1,12 +1,13 @@
-ghost use Rattle.std.specs.Prelude.{◌≡◌, IfOk, OnErr, IsErrOf};
+ghost use Rattle.std.specs.Prelude.{◌≡◌, ◌<◌, ◌^◌, IfOk, IfSome, IfNone, OnErr, IsErrOf};
 ghost use Rattle.lb_desk_model.specs.States.{opening};
-ghost use Rattle.lb_desk_model.specs.Steps.{Step};
+ghost use Rattle.lb_desk_model.specs.Steps.{Does, Step};
 ghost use Rattle.lb_desk_plain.specs.Runs.{Answers, AnswersSome, IsWorn};
 
 use crate::StepFault;
 use crate::acts::{act, have_same_view};
 use lb_desk_model::{Backend, Event, Reply};
 use lb_desk_plain_events::MachineState;
+use lb_types::Place;
 use std::alloc::{AllocError, Global};
 use std::marker::Model;
 
@@ -61,11 +62,50 @@ impl Machine {
         }
         let mut acted = self.state.copied(alloc)?;
         let reply = act(&mut acted, alloc, event)?;
+        self.take(acted, event, &reply);
+        Ok(reply)
+    }
+
+    /// Takes one event as `step` does, but for an install that moves pins, behind which the i-th pin is at the i-th of these places: which
+    /// of the pins of one kind go where is free, and so another machine may have chosen otherwise. None, and nothing has changed, where
+    /// the plan doesn't send as many pins of each kind to each place.
+    pub fn step_at(
+        &mut self,
+        alloc: Global,
+        event: &Event,
+        places: &[Place],
+    ) -> Result<Option<Reply>, StepFault>
+        ensures step { IfOk result (λ found. IfSome found (λ reply. Step self.old event.now reply self.new)) }
+        ensures none { IfOk result (λ found. IfNone found (self.new ≡ self.old)) }
+        ensures err { OnErr result (self.new ≡ self.old) }
+        ensures worn { IsErrOf result StepFault.Worn → IsWorn self.old event.now }
+    {
+        let Event::Install(plan) = event else {
+            return Ok(Some(self.step(alloc, event)?));
+        };
+        if self.state.version() >= 1 << 63 {
+            return Err(StepFault::Worn);
+        }
+        let mut acted = self.state.copied(alloc)?;
+        let Some(reply) = acted.install_at(alloc, plan, places)? else {
+            return Ok(None);
+        };
+        self.take(acted, event, &reply);
+        Ok(Some(reply))
+    }
+
+    /// Takes the step to this state, which the event led to with this reply, and counts the version where the view has changed.
+    fn take(&mut self, mut acted: MachineState, event: &Event, reply: &Reply)
+        requires does { Does self.old event.now reply.now acted }
+        requires version { self.old.version < 2 ^ 63 }
+        ensures { Step self.old event.now reply.now self.new }
+    {
+        let _ = event;
+        let _ = reply;
         if !have_same_view(&self.state, &acted) {
             acted.count_step();
         }
         self.state = acted;
-        Ok(reply)
     }
 
     /// Takes the events in their order, and gives their replies. Where a step fails, or there is no room for its reply, the

@@ -1,3 +1,4 @@
+pub mod Alike
 pub mod Expired
 pub mod Places
 pub mod Served

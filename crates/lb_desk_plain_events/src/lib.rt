@@ -14,6 +14,7 @@ mod names;
 mod pins;
 mod plans;
 mod serves;
+mod sharing;
 mod state;
 
 pub use state::MachineState;

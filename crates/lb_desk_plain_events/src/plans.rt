@@ -17,7 +17,7 @@ use std::alloc::{AllocError, Global};
 
 impl MachineState {
     /// The view that planners see.
-    fn view(&self, alloc: Global) -> Result<View, AllocError>
+    pub(crate) fn view(&self, alloc: Global) -> Result<View, AllocError>
         requires { IsView (view_of self.now) }
         ensures { IfOk result (λ view. view ≡ view_of self.now) }
     {
@@ -78,7 +78,7 @@ fn seen_pins(alloc: Global, pins: &[TablePin]) -> Result<Vec<Pin>, AllocError>
 }
 
 /// Puts the i-th pin at the i-th place.
-fn put_at(pins: &mut [TablePin], places: &[Place])
+pub(crate) fn put_at(pins: &mut [TablePin], places: &[Place])
     requires { length places.now ≡ length pins.old }
     ensures { pins.new ≡ map (λ m. moved_to m.0 m.1) (zip pins.old places.now) }
 {

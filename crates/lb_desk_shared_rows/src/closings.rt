@@ -6,11 +6,9 @@ use crate::farms::{Hasher, desk_of, farm};
 use lb_desk_model::{Backend, Entry, ServedAs};
 use lb_desk_ports::{Opening, Shut};
 use lb_desk_shared::{CloseFault, Closing, Naming, SharedDesk};
-use lb_desk_step::run_world;
 use lb_desk_tie::{Opened, Pass};
 use lb_types::ServerId;
 use std::alloc::Global;
-use std::hash::{BuildHasherDefault, FoldHasher};
 use std::marker::Brand;
 use std::process::Abort;
 use std::sync::Wait;
@@ -40,22 +38,8 @@ pub(crate) fn judge(
     backend: &Backend,
     closing: &Closing,
 ) -> Result<(), Fail> {
-    assert!(rt; closing.rising, "numbers rise");
-    assert_eq!(rt; closing.journal.first(), 0, "a whole history");
-    let mut events = Vec::new(alloc);
-    for entry in closing.journal.iter() {
-        events.push(entry.event.clone()?)?;
-    }
-    let hasher = BuildHasherDefault::<FoldHasher>::new();
-    let replies = run_world(alloc, backend, events, hasher)?;
-    assert_eq!(rt;
-        replies.len(),
-        closing.journal.len(),
-        "a reply to each event"
-    );
-    for (reply, entry) in replies.iter().zip(closing.journal.iter()) {
-        assert_eq!(rt; *reply, entry.reply, "the same reply");
-    }
+    let fault = lb_desk_tried::judge(alloc, backend, closing)?;
+    assert_eq!(rt; fault, None, "a journal that is run again");
     Ok(())
 }
 

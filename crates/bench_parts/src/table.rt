@@ -2,12 +2,14 @@
 //!
 //! A table grows from empty to so many pins; then pins drawn at random are found and used, three times as many; then as many new
 //! pins are made, each of which purges the oldest; then the counts are walked over, of 1,000 kinds where there are pins enough.
-//! Memory is what the process has more than before the growth. Last, a table grows under the hasher of fixed seed.
+//! Memory is what the process has more than before the growth. Then a table grows by names that all have one hash under the hasher
+//! of fixed seed, which shall cost it no more than others, and last one grows under that hasher, by names that look random.
 
+use crate::numbered::{hashes, set_of_one_hash};
+use crate::{Times, drawn_names, grown, names, resident, tell_clock};
 use anyhow::Result;
-use bench_parts::{Times, drawn_names, grown, names, resident, tell_clock};
 use lb_desk_model::TableSettings;
-use lb_types::{Moment, ServerId};
+use lb_types::{Moment, ServerId, ServerSet};
 use pin_set::PinId;
 use pin_table::Table;
 use std::alloc::{AllocError, Global};
@@ -19,17 +21,22 @@ use std::time::Instant;
 /// For how many calls names are made beforehand.
 const BATCH: u32 = 10_000;
 
-/// Pins are made at so many servers in turn, and then at so many costs.
-const SERVERS: u32 = 125;
+/// Of so many names it is told whether they have one hash.
+const NAMES: u32 = 1000;
 
-const COSTS: u32 = 8;
+/// Of so many kinds pins are made in turn: at so many servers, and at as many costs as it takes.
+const KINDS: u32 = 1000;
+
+const SERVERS: u32 = 128;
 
 /// More than a table is used here.
 const MANY: u64 = 1 << 40;
 
-pub(crate) fn run(rt: &(impl Runtime + RandomSource), alloc: Global, pins: u32) -> Result<()> {
+/// Times the calls of a table of so many pins.
+pub fn measure_table(rt: &(impl Runtime + RandomSource), alloc: Global, pins: u32) -> Result<()> {
     tell_clock(rt)?;
     use_table(rt, alloc, RandomState::new(rt)?, pins)?;
+    grow_by_one_hash(rt, alloc, RandomState::new(rt)?, pins)?;
     grow_unseeded(rt, alloc, pins)
 }
 
@@ -42,23 +49,19 @@ fn use_table<S: BuildHasher + Drop>(
 ) -> Result<()> {
     let before = resident(rt)?;
     let mut table = Table::new(alloc, settings(pins), hasher);
-    make(rt, alloc, &mut table, 0, pins, "growth")?;
+    let none = ServerSet::empty();
+    make(rt, alloc, &mut table, (none, 0, pins), "growth")?;
     tell_memory(rt, before, pins)?;
     touch(rt, alloc, &mut table, pins)?;
-    purge(rt, alloc, &mut table, pins)?;
+    make(
+        rt,
+        alloc,
+        &mut table,
+        (none, pins, pins),
+        "an insert with a purge",
+    )?;
     tell_memory(rt, before, pins)?;
     count(rt, alloc, &table)
-}
-
-/// Makes as many new pins as the full table has.
-fn purge<S: BuildHasher + Drop>(
-    rt: &impl Runtime,
-    alloc: Global,
-    table: &mut Table<S>,
-    pins: u32,
-) -> Result<()> {
-    let what = "an insert with a purge";
-    make(rt, alloc, table, pins, pins, what)
 }
 
 fn tell_memory(rt: &impl Runtime, before: u64, pins: u32) -> Result<()> {
@@ -75,20 +78,20 @@ fn settings(pins: u32) -> TableSettings {
     }
 }
 
-/// Makes so many pins, from the first number on.
+/// Makes pins that want these servers: from the first number on, so many.
 fn make<S: BuildHasher + Drop>(
     rt: &impl Runtime,
     alloc: Global,
     table: &mut Table<S>,
-    first: u32,
-    count: u32,
+    pins: (ServerSet, u32, u32),
     what: &str,
 ) -> Result<()> {
+    let (want, first, count) = pins;
     let mut times = Times::none();
     for batch in 0..count.div_ceil(BATCH) {
         let made = batch.saturating_mul(BATCH);
         let number = first.saturating_add(made);
-        let names = names(alloc, number, BATCH.min(count.saturating_sub(made)))?;
+        let names = names(alloc, number, BATCH.min(count.saturating_sub(made)), want)?;
         make_each(rt, table, number, names, &mut times)?;
     }
     println!(rt; "{what}: {} pins", table.len())?;
@@ -122,8 +125,9 @@ fn make_one<S: BuildHasher + Drop>(
     if table.uses() >= MANY || table.find(&name).is_some() {
         return Ok(());
     }
-    let server = ServerId::new((number % SERVERS) as u8);
-    let cost = (number / SERVERS % COSTS) as u16 + 1;
+    let kind = number % KINDS;
+    let server = ServerId::new((kind % SERVERS) as u8);
+    let cost = (kind / SERVERS) as u16 + 1;
     match table.insert(name, server, cost, Moment::from_millis(0)) {
         Ok(()) => Ok(()),
         Err(_) => Err(AllocError),
@@ -201,9 +205,25 @@ fn walked<S: BuildHasher + Drop>(table: &Table<S>) -> (u64, u64) {
     (kinds, pins)
 }
 
+/// Grows a table by names that were chosen to have one hash under the hasher of fixed seed, and tells of some that they have.
+fn grow_by_one_hash<S: BuildHasher + Drop>(
+    rt: &impl Runtime,
+    alloc: Global,
+    hasher: S,
+    pins: u32,
+) -> Result<()> {
+    let want = set_of_one_hash();
+    let fixed = hashes(alloc, NAMES, want)?;
+    println!(rt; "{NAMES} names with {fixed} hash under the fixed seed")?;
+    let mut table = Table::new(alloc, settings(pins), hasher);
+    let what = "growth, names of one hash under the fixed seed";
+    make(rt, alloc, &mut table, (want, 0, pins), what)
+}
+
 /// Grows a table under the hasher of fixed seed.
 fn grow_unseeded(rt: &impl Runtime, alloc: Global, pins: u32) -> Result<()> {
     let hasher = BuildHasherDefault::<FoldHasher>::new();
     let mut table = Table::new(alloc, settings(pins), hasher);
-    make(rt, alloc, &mut table, 0, pins, "growth, unseeded")
+    let none = ServerSet::empty();
+    make(rt, alloc, &mut table, (none, 0, pins), "growth, unseeded")
 }

@@ -1,0 +1,339 @@
+//! One desk that many threads use: how many whole requests a second, how long a call takes that waits for nobody, and how long others
+//! wait while all pins and the journal are copied.
+//!
+//! A whole request is an Expire, a Serve, an Open and a Close. Requests are made beforehand, and so are their pins. Alone each of the
+//! four is timed by itself; threads that call at once ask as the balancer does, for the first two together.
+ghost use Rattle.std.specs.Prelude.{◌≡◌};
+
+use crate::farm::{backend, request};
+use crate::numbered::drawn;
+use crate::{Times, tell_clock};
+use anyhow::{Context, Result};
+use lb_desk_model::{Backend, Entry, Event, Reply, Request, ServedAs};
+use lb_desk_ports::{Asked, Opening, Port, Refused};
+use lb_desk_seat::Seat;
+use lb_desk_shared::{Naming, SharedDesk};
+use lb_desk_step::Desk;
+use lb_desk_tie::Opened;
+use std::alloc::{AllocError, Global};
+use std::hash::RandomState;
+use std::marker::Brand;
+use std::random::RandomSource;
+use std::rt::{Clock, Runtime};
+use std::sync::Wait;
+use std::thread::{Threads, map_vec};
+use std::time::Instant;
+
+const THREADS: u32 = 8;
+
+/// How many entries the desk keeps: as many as by default.
+const JOURNAL: u32 = 100_000;
+
+/// What a thread does at the desk.
+#[derive(Drop)]
+enum Job {
+    /// Serves these requests.
+    Serve(Vec<Request>),
+    /// Copies all pins, and then the journal.
+    Copy,
+}
+
+/// What a thread did.
+#[derive(Debug, Drop)]
+struct Work {
+    kept: u64,
+    copied: usize,
+    /// How long it took until a server was told, and the copies.
+    asks: Times,
+    rows: Times,
+    entries: Times,
+}
+
+/// How long the four events of requests took, each by itself.
+#[derive(Debug, Drop)]
+struct FourTimes {
+    expire: Times,
+    serve: Times,
+    open: Times,
+    close: Times,
+}
+
+impl Work {
+    fn none() -> Self {
+        Work {
+            kept: 0,
+            copied: 0,
+            asks: Times::none(),
+            rows: Times::none(),
+            entries: Times::none(),
+        }
+    }
+}
+
+/// Times one desk of so many pins, at which each of 8 threads makes so many requests.
+pub fn measure_shared<R: Runtime + Threads + Wait + RandomSource + Sync>(
+    rt: &R,
+    alloc: Global,
+    pins: u32,
+    requests: u32,
+) -> Result<()> {
+    tell_clock(rt)?;
+    let backend = backend(alloc, pins)?;
+    let opened = Opened::new(alloc)?;
+    let hasher = RandomState::new(rt)?;
+    share::<Brand, R>(rt, alloc, opened, &backend, hasher, pins, requests)
+}
+
+/// The same, with a desk whose name is picked.
+fn share<B: Naming + Send + Sync, R: Runtime + Threads + Wait + Sync>(
+    rt: &R,
+    alloc: Global,
+    opened: Opened<Entry>,
+    backend: &Backend,
+    hasher: RandomState,
+    pins: u32,
+    requests: u32,
+) -> Result<()>
+    requires table { opened ≡ B.table_of 0 }
+    requires opening { B.opening 0 ≡ backend.now }
+{
+    let desk = Desk::open(alloc, backend, JOURNAL, hasher)?;
+    let desk = SharedDesk::<RandomState, B>::of(opened, 0, desk);
+    make_pins(rt, alloc, &desk, pins)?;
+    serve_alone(rt, alloc, &desk, pins, requests)?;
+    serve_together(rt, alloc, &desk, pins, requests)?;
+    serve_beside_copies(rt, alloc, &desk, pins, requests)
+}
+
+/// Makes the pins.
+fn make_pins<B: Naming, R: Wait>(
+    rt: &R,
+    alloc: Global,
+    desk: &SharedDesk<RandomState, B>,
+    pins: u32,
+) -> Result<()> {
+    let mut seat = Seat::new(alloc, desk, desk.enter(rt)?);
+    for number in 0..pins {
+        seat.ask(rt, request(alloc, number)?)?;
+    }
+    Ok(())
+}
+
+/// One thread's requests, while no other thread calls: how long each of their events takes.
+fn serve_alone<B: Naming, R: Runtime + Wait>(
+    rt: &R,
+    alloc: Global,
+    desk: &SharedDesk<RandomState, B>,
+    pins: u32,
+    requests: u32,
+) -> Result<()> {
+    let mut times = FourTimes {
+        expire: Times::none(),
+        serve: Times::none(),
+        open: Times::none(),
+        close: Times::none(),
+    };
+    let mut kept: u64 = 0;
+    for request in drawn_requests(alloc, 0, requests, pins)? {
+        let how = tell_four(rt, desk, request, &mut times)?;
+        kept = kept.saturating_add(u64::from(how == Some(ServedAs::Kept)));
+    }
+    println!(rt; "alone: {kept} kept")?;
+    times.expire.tell(rt, "an Expire")?;
+    times.serve.tell(rt, "a Serve")?;
+    times.open.tell(rt, "an Open")?;
+    times.close.tell(rt, "a Close")
+}
+
+/// One whole request, each of its events by itself, and how it was served if it was.
+fn tell_four<B: Naming, R: Runtime + Wait>(
+    rt: &R,
+    desk: &SharedDesk<RandomState, B>,
+    request: Request,
+    times: &mut FourTimes,
+) -> Result<Option<ServedAs>> {
+    let expiry = Event::Expire(request.moment);
+    tell_event(rt, desk, expiry, &mut times.expire)?;
+    let reply = tell_event(rt, desk, Event::Serve(request), &mut times.serve)?;
+    let Reply::Served(server, how) = reply else {
+        return Ok(None);
+    };
+    tell_event(rt, desk, Event::Open(server), &mut times.open)?;
+    tell_event(rt, desk, Event::Close(server), &mut times.close)?;
+    Ok(Some(how))
+}
+
+/// Takes one event to the desk. The pass for it is made beforehand, and stays out.
+fn tell_event<B: Naming, R: Runtime + Wait>(
+    rt: &R,
+    desk: &SharedDesk<RandomState, B>,
+    event: Event,
+    times: &mut Times,
+) -> Result<Reply> {
+    let mut pass = desk.enter(rt)?;
+    let start = Instant::now(rt)?;
+    let told = desk.tell(rt, &mut pass, event)?;
+    times.add(rt, start)?;
+    Ok(told.reply)
+}
+
+/// Requests of all threads at once.
+fn serve_together<B, R>(
+    rt: &R,
+    alloc: Global,
+    desk: &SharedDesk<RandomState, B>,
+    pins: u32,
+    requests: u32,
+) -> Result<()>
+where
+    B: Naming + Send + Sync,
+    R: Runtime + Threads + Wait + Sync,
+{
+    let jobs = jobs(alloc, THREADS, pins, requests)?;
+    let start = Instant::now(rt)?;
+    let works = do_jobs(rt, alloc, desk, jobs)?;
+    let micros = start.elapsed(rt)?.as_micros();
+    let mut kept: u64 = 0;
+    for found in works {
+        let work = found.context("a call was refused")?;
+        kept = kept.saturating_add(work.kept);
+    }
+    println!(rt; "{THREADS} threads: {kept} kept")?;
+    let rate = u128::from(kept)
+        .saturating_mul(1_000_000)
+        .checked_div(micros);
+    eprintln!(rt;
+        "{THREADS} threads: {} requests a second",
+        rate.unwrap_or(0)
+    )?;
+    Ok(())
+}
+
+/// Requests of all threads but one, which copies all pins and the journal.
+fn serve_beside_copies<B, R>(
+    rt: &R,
+    alloc: Global,
+    desk: &SharedDesk<RandomState, B>,
+    pins: u32,
+    requests: u32,
+) -> Result<()>
+where
+    B: Naming + Send + Sync,
+    R: Runtime + Threads + Wait + Sync,
+{
+    let mut jobs = jobs(alloc, THREADS.saturating_sub(1), pins, requests)?;
+    jobs.push(Job::Copy)?;
+    let works = do_jobs(rt, alloc, desk, jobs)?;
+    let mut kept: u64 = 0;
+    let mut copied: usize = 0;
+    for found in works {
+        let work = found.context("a call was refused")?;
+        kept = kept.saturating_add(work.kept);
+        copied = copied.max(work.copied);
+        if work.copied > 0 {
+            work.rows.tell(rt, "a copy of all pins")?;
+            work.entries.tell(rt, "a copy of the journal")?;
+        } else {
+            work.asks.tell(rt, "an Expire and a Serve beside copies")?;
+        }
+    }
+    println!(rt; "beside copies: {kept} kept, {copied} pins copied")?;
+    Ok(())
+}
+
+/// So many threads' requests.
+fn jobs(alloc: Global, threads: u32, pins: u32, requests: u32) -> Result<Vec<Job>, AllocError> {
+    let mut jobs = Vec::with_capacity(alloc, threads as usize)?;
+    for thread in 0..threads {
+        let first = thread.saturating_mul(requests);
+        jobs.push(Job::Serve(drawn_requests(alloc, first, requests, pins)?))?;
+    }
+    Ok(jobs)
+}
+
+/// So many requests with keys drawn from those of the pins.
+fn drawn_requests(
+    alloc: Global,
+    first: u32,
+    count: u32,
+    pins: u32,
+) -> Result<Vec<Request>, AllocError> {
+    let mut requests = Vec::with_capacity(alloc, count as usize)?;
+    for draw in first..first.saturating_add(count) {
+        requests.push(request(alloc, drawn(draw, pins))?)?;
+    }
+    Ok(requests)
+}
+
+/// Does each job in a thread of its own.
+fn do_jobs<B, R>(
+    rt: &R,
+    alloc: Global,
+    desk: &SharedDesk<RandomState, B>,
+    jobs: Vec<Job>,
+) -> Result<Vec<Option<Work>>, AllocError>
+where
+    B: Naming + Send + Sync,
+    R: Clock + Threads + Wait + Sync,
+{
+    map_vec(rt, jobs, &|job| do_job(rt, alloc, desk, job))
+}
+
+/// Does the job. None where a call was refused, or the clock can't be read.
+fn do_job<B: Naming, R: Wait + Clock>(
+    rt: &R,
+    alloc: Global,
+    desk: &SharedDesk<RandomState, B>,
+    job: Job,
+) -> Option<Work> {
+    let mut seat = Seat::new(alloc, desk, desk.enter(rt).ok()?);
+    let mut work = Work::none();
+    match job {
+        Job::Serve(requests) => {
+            for request in requests {
+                serve(rt, &mut seat, request, &mut work).ok()?;
+            }
+        }
+        Job::Copy => copy(rt, alloc, desk, &mut work).ok()?,
+    }
+    Some(work)
+}
+
+/// One whole request.
+fn serve<B: Naming, R: Wait + Clock>(
+    rt: &R,
+    seat: &mut Seat<'_, RandomState, B>,
+    request: Request,
+    work: &mut Work,
+) -> Result<()> {
+    let start = Instant::now(rt)?;
+    let asked = seat.ask(rt, request)?;
+    work.asks.add(rt, start)?;
+    let Asked::Served(server, how) = asked else {
+        return Ok(());
+    };
+    work.kept = work.kept.saturating_add(u64::from(how == ServedAs::Kept));
+    if let Opening::Opened(slot) = seat.open(rt, server)? {
+        seat.shut(rt, slot)?;
+    }
+    Ok(())
+}
+
+/// Copies all pins, and then the journal.
+fn copy<B: Naming, R: Wait + Clock>(
+    rt: &R,
+    alloc: Global,
+    desk: &SharedDesk<RandomState, B>,
+    work: &mut Work,
+) -> Result<()> {
+    let start = Instant::now(rt)?;
+    let rows = desk.rows(rt, alloc)?;
+    work.rows.add(rt, start)?;
+    work.copied = rows.len();
+    drop(rows);
+    let start = Instant::now(rt)?;
+    let entries = desk.entries(rt, alloc)?;
+    work.entries.add(rt, start)?;
+    drop(entries);
+    Ok(())
+}

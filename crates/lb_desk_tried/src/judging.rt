@@ -1,0 +1,48 @@
+//! The journal of a desk that was closed, run again.
+
+use lb_desk_model::Backend;
+use lb_desk_ports::Refused;
+use lb_desk_shared::Closing;
+use lb_desk_step::run_world;
+use std::alloc::Global;
+use std::hash::{BuildHasherDefault, FoldHasher};
+
+/// What is wrong with a journal.
+#[derive(Clone, Copy, Debug, PartialEq, Eq)]
+pub enum JournalFault {
+    /// In some pass a later call has a smaller number.
+    NotRising,
+    /// Its first entries were forgotten, so it can't be run again.
+    NotWhole,
+    /// The entry of this number has another reply where its events are taken again, one after another.
+    OtherReply(u64),
+}
+
+/// Has one desk of this backend take the journal's events again, one after another, and compares the replies. None where they are the
+/// same.
+pub fn judge(
+    alloc: Global,
+    backend: &Backend,
+    closing: &Closing,
+) -> Result<Option<JournalFault>, Refused> {
+    if !closing.rising {
+        return Ok(Some(JournalFault::NotRising));
+    }
+    if closing.journal.first() != 0 {
+        return Ok(Some(JournalFault::NotWhole));
+    }
+    let mut events = Vec::with_capacity(alloc, closing.journal.len())?;
+    for entry in closing.journal.iter() {
+        events.push(entry.event.clone()?)?;
+    }
+    let hasher = BuildHasherDefault::<FoldHasher>::new();
+    let replies = run_world(alloc, backend, events, hasher)?;
+    let mut number = 0u64;
+    for (reply, entry) in replies.iter().zip(closing.journal.iter()) {
+        if *reply != entry.reply {
+            return Ok(Some(JournalFault::OtherReply(number)));
+        }
+        number = number.saturating_add(1);
+    }
+    Ok(None)
+}
