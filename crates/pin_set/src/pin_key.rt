@@ -1,10 +1,11 @@
-ghost use Rattle.std.specs.Prelude.{◌≡◌, IfOk, nat_eq};
+ghost use Rattle.std.specs.Prelude.{◌≡◌, ◌≤◌, IfOk, IsOk, length, nat_eq};
 ghost use Rattle.std.specs.Hash as fed;
 ghost use Rattle.std.specs.Cmp.Lexicographic.{pointwise, nat_list_eq_equiv};
 ghost use Rattle.std.specs.Cmp.{partial_equiv_from_equiv};
 ghost use Rattle.std.specs.Cmp.Rules.{hashing};
 ghost use Rattle.std.proofs.Common.{rules};
 
+use smallvec::SmallVec;
 use std::alloc::{AllocError, Global};
 use std::fmt;
 use std::hash::{Hash, Hasher};
@@ -20,10 +21,10 @@ pub enum PinKey {
     Text(KeyText),
 }
 
-/// The bytes of a key in a table of type `string`.
+/// The bytes of a key in a table of type `string`. Up to 32 of them stand in place, and need no memory of their own.
 #[derive(Drop)]
 pub struct KeyText {
-    bytes: Vec<u8>,
+    bytes: SmallVec<u8, 32>,
 }
 
 impl Model for KeyText {
@@ -35,19 +36,22 @@ impl Model for KeyText {
 }
 
 impl KeyText {
-    /// The key of these bytes.
+    /// The key of these bytes. It takes no memory.
     pub fn new(bytes: Vec<u8>) -> Self
         ensures { result ≡ bytes.items }
     {
-        KeyText { bytes }
+        KeyText {
+            bytes: SmallVec::from_vec(bytes),
+        }
     }
 
-    /// The key of a copy of these bytes.
+    /// The key of a copy of these bytes. It takes memory where they are more than 32, of which want is its one error.
     pub fn copied_from(alloc: Global, bytes: &[u8]) -> Result<KeyText, AllocError>
-        ensures { IfOk result (λ text. text ≡ bytes.now) }
+        ensures exact { IfOk result (λ text. text ≡ bytes.now) }
+        ensures in_place { length bytes.now ≤ 32 → IsOk result }
     {
         Ok(KeyText {
-            bytes: Vec::from_slice(alloc, bytes)?,
+            bytes: SmallVec::from_slice(alloc, bytes)?,
         })
     }
 
@@ -55,17 +59,17 @@ impl KeyText {
     pub fn as_bytes(&self) -> &[u8]
         ensures { result.now ≡ self.now }
     {
-        &self.bytes
+        self.bytes.as_slice()
     }
 }
 
 impl Clone for KeyText {
     ghost is_clone = { λ text copy. copy ≡ text };
 
+    ghost is_infallible = { λ text. length text ≤ 32 };
+
     fn clone(&self) -> Result<KeyText, AllocError> {
-        Ok(KeyText {
-            bytes: self.bytes.clone()?,
-        })
+        KeyText::copied_from(*self.bytes.allocator(), self.as_bytes())
     }
 }
 
