@@ -9,7 +9,7 @@ import subprocess
 from typing import Dict, List, Sequence, Set, Tuple
 
 from trying.edits import PARTS, read_text
-from trying.source import closing, masked
+from trying.source import closing, code_of, functions_of, masked, module_of
 
 FOLDER = "wrong-bodies"
 
@@ -21,6 +21,7 @@ class Repository:
         self.root, self.room, self.lines = root, room, {}
         self.lower: Dict[str, List[str]] = {}
         self.sums: Dict[str, str] = {}
+        self.defined: Dict[str, str] = {}
         for line in read_text(f"{root}/crates.txt").split("\n"):
             head, _, uses = line.partition("#")[0].partition(":")
             if head.strip():
@@ -50,11 +51,14 @@ class Repository:
         return {it: read_text(f"{folder}/{it}") for it in sorted(os.listdir(folder)) if not it.endswith(".md")}
 
     def digest(self, crate: str) -> str:
-        """Returns the sum over all that the verdicts on this crate's edits depend on."""
+        """Returns the sum over all that the verdicts on this crate's edits depend on: the crate's own texts, and the definitions
+        below it, since they say what its contracts mean. How a function below is written or proved, and what it promises, plays no
+        part: a body that breaks its contract has no proof whatever is promised below it."""
         total = hashlib.sha256(self.logic.encode())
         total.update(repr(sorted(self.edits(crate).items())).encode())
-        for it in sorted([crate, *self.below(crate)]):
-            total.update(self.sum_of_texts(it).encode())
+        total.update(self.sum_of_texts(crate).encode())
+        for it in sorted(self.below(crate)):
+            total.update(self.sum_of_definitions(it).encode())
         return total.hexdigest()
 
     def sum_of_texts(self, crate: str) -> str:
@@ -65,11 +69,64 @@ class Repository:
             self.sums[crate] = hashlib.sha256(said.encode(errors="surrogateescape")).hexdigest()
         return self.sums[crate]
 
+    def sum_of_definitions(self, crate: str) -> str:
+        """Returns the sum over what contracts above this crate are said in: its specs, and the types, models, traits and constants
+        of its sources."""
+        if crate not in self.defined:
+            texts = texts_without_tests(self.texts(crate))
+            said = [(short, text) for short, text in texts if short.startswith("specs/")]
+            said += [(short, definitions_of(short, text)) for short, text in texts if short.endswith(".rt")]
+            said = [it for it in said if it[1]]
+            self.defined[crate] = hashlib.sha256(repr(said).encode(errors="surrogateescape")).hexdigest()
+        return self.defined[crate]
+
 
 def logic_of_toolchain() -> str:
     """Returns the digest of the logic by which the prover judges. What it refuses doesn't hang on which release of the toolchain has it."""
     version = subprocess.run(["rt", "version"], stdout=subprocess.PIPE, check=True).stdout.decode().strip()
     return version.rpartition(" logic ")[2]
+
+
+STRUCT = re.compile(r"\bstruct\s+\w+[^;{}]*\{")
+PRIVATE_FIELD = re.compile(r"^[ \t]*(?!pub\b|#)\w+[ \t]*:[^\n]*\n", re.M)
+IMPORT = re.compile(r"^[ \t]*(?:use|ghost use|mod|pub mod)\b[^;]*;", re.M)
+PRIVATE_CONSTANT = re.compile(r"^[ \t]*(?:pub\(crate\) )?const\b[^;]*;", re.M)
+PRIVATE_STRUCT = re.compile(r"(?:#\[[^\]]*\]\s*)*(?:\bpub\(crate\) |(?<!pub )\b)struct\s+\w+[^;{}()]*\{")
+EMPTY = re.compile(r"\b(?:impl|where)\b[^{};]*\{\s*\}")
+PROMISE = re.compile(r"\bghost\s+(?:laws|respects_eq|is_infallible)\s*=\s*\{")
+
+
+def without(opening: re.Pattern[str], text: str) -> str:
+    """Returns the text without what begins so and goes on to the end of the braces that open there."""
+    while True:
+        mask = masked(text)
+        found = opening.search(mask)
+        if not found:
+            return text
+        end = closing(mask, found.end() - 1)
+        text = text[: found.start()] + text[end:].removeprefix(";")
+
+
+def definitions_of(file: str, text: str) -> str:
+    """Returns what a source file defines for others, without comments: its public types, but for private fields, its models, traits
+    and constants, and what it takes a trait's words for, but for laws and for when a call can't fail. Of functions it has those of
+    traits alone."""
+    kept, last = [], 0
+    for one in sorted(functions_of(file, text).values(), key=lambda it: it.start):
+        is_of_trait = not one.owner and len(one.path) > len(module_of(file)) + 1
+        if not is_of_trait and one.start >= last:
+            kept.append(text[last : one.start])
+            last = one.end
+    rest = PRIVATE_CONSTANT.sub("", IMPORT.sub("", "".join([*kept, text[last:]])))
+    rest = without(PRIVATE_STRUCT, without(PROMISE, rest))
+    while True:
+        mask = masked(rest)
+        fields = [(it.end() - 1, closing(mask, it.end() - 1)) for it in STRUCT.finditer(mask)]
+        bare = [(start, end) for start, end in fields if PRIVATE_FIELD.search(mask, start, end)]
+        if not bare:
+            return re.sub(r" +", " ", EMPTY.sub("", code_of(rest))).strip()
+        start, end = bare[0]
+        rest = rest[:start] + PRIVATE_FIELD.sub("", rest[start:end]) + rest[end:]
 
 
 TESTS = re.compile(r"\s*#\[cfg\(test\)\]\s*mod\s+(\w+)\s*([;{])")

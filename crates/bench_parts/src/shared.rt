@@ -1,7 +1,7 @@
 //! One desk that many threads use: how many whole requests a second, how long a call takes that waits for nobody, and how long others
-//! wait while all pins and the journal are copied.
+//! wait while all pins and the journal are copied, who go on calling for as long as the copies last.
 //!
-//! A whole request is an Expire, a Serve, an Open and a Close. Requests are made beforehand, and so are their pins. Alone each of the
+//! A whole request is an Expire, a Serve, an Open and a Close. Requests are made beforehand, but beside copies, and so are their pins. Alone each of the
 //! four is timed by itself; threads that call at once ask as the balancer does, for the first two together.
 ghost use Rattle.std.specs.Prelude.{◌≡◌};
 
@@ -21,6 +21,7 @@ use std::marker::Brand;
 use std::random::RandomSource;
 use std::rt::{Clock, Runtime};
 use std::sync::Wait;
+use std::sync::atomic::{AtomicBool, Ordering};
 use std::thread::{Threads, map_vec};
 use std::time::Instant;
 
@@ -29,12 +30,17 @@ const THREADS: u32 = 8;
 /// How many entries the desk keeps: as many as by default.
 const JOURNAL: u32 = 100_000;
 
+/// How often all pins and the journal are copied.
+const COPIES: u32 = 3;
+
 /// What a thread does at the desk.
 #[derive(Drop)]
 enum Job {
     /// Serves these requests.
     Serve(Vec<Request>),
-    /// Copies all pins, and then the journal.
+    /// Serves requests with keys drawn from those of so many pins, from a draw on, until the copies have ended.
+    ServeOn { first: u32, pins: u32 },
+    /// Copies all pins, and then the journal, a few times.
     Copy,
 }
 
@@ -102,7 +108,7 @@ fn share<B: Naming + Send + Sync, R: Runtime + Threads + Wait + Sync>(
     make_pins(rt, alloc, &desk, pins)?;
     serve_alone(rt, alloc, &desk, pins, requests)?;
     serve_together(rt, alloc, &desk, pins, requests)?;
-    serve_beside_copies(rt, alloc, &desk, pins, requests)
+    serve_beside_copies(rt, alloc, &desk, pins)
 }
 
 /// Makes the pins.
@@ -191,7 +197,7 @@ where
 {
     let jobs = jobs(alloc, THREADS, pins, requests)?;
     let start = Instant::now(rt)?;
-    let works = do_jobs(rt, alloc, desk, jobs)?;
+    let works = do_jobs(rt, alloc, desk, jobs, &AtomicBool::new(true))?;
     let micros = start.elapsed(rt)?.as_micros();
     let mut kept: u64 = 0;
     for found in works {
@@ -215,29 +221,32 @@ fn serve_beside_copies<B, R>(
     alloc: Global,
     desk: &SharedDesk<RandomState, B>,
     pins: u32,
-    requests: u32,
 ) -> Result<()>
 where
     B: Naming + Send + Sync,
     R: Runtime + Threads + Wait + Sync,
 {
-    let mut jobs = jobs(alloc, THREADS.saturating_sub(1), pins, requests)?;
+    let mut jobs = Vec::with_capacity(alloc, THREADS as usize)?;
+    for thread in 1..THREADS {
+        let first = thread.saturating_mul(pins);
+        jobs.push(Job::ServeOn { first, pins })?;
+    }
     jobs.push(Job::Copy)?;
-    let works = do_jobs(rt, alloc, desk, jobs)?;
-    let mut kept: u64 = 0;
+    let works = do_jobs(rt, alloc, desk, jobs, &AtomicBool::new(false))?;
+    let mut served: usize = 0;
     let mut copied: usize = 0;
     for found in works {
         let work = found.context("a call was refused")?;
-        kept = kept.saturating_add(work.kept);
         copied = copied.max(work.copied);
         if work.copied > 0 {
             work.rows.tell(rt, "a copy of all pins")?;
             work.entries.tell(rt, "a copy of the journal")?;
         } else {
+            served = served.saturating_add(1);
             work.asks.tell(rt, "an Expire and a Serve beside copies")?;
         }
     }
-    println!(rt; "beside copies: {kept} kept, {copied} pins copied")?;
+    println!(rt; "beside copies: {served} threads, {copied} pins copied")?;
     Ok(())
 }
 
@@ -265,18 +274,19 @@ fn drawn_requests(
     Ok(requests)
 }
 
-/// Does each job in a thread of its own.
+/// Does each job in a thread of its own. What serves on ends once `copied` is set.
 fn do_jobs<B, R>(
     rt: &R,
     alloc: Global,
     desk: &SharedDesk<RandomState, B>,
     jobs: Vec<Job>,
+    copied: &AtomicBool,
 ) -> Result<Vec<Option<Work>>, AllocError>
 where
     B: Naming + Send + Sync,
     R: Clock + Threads + Wait + Sync,
 {
-    map_vec(rt, jobs, &|job| do_job(rt, alloc, desk, job))
+    map_vec(rt, jobs, &|job| do_job(rt, alloc, desk, job, copied))
 }
 
 /// Does the job. None where a call was refused, or the clock can't be read.
@@ -285,6 +295,7 @@ fn do_job<B: Naming, R: Wait + Clock>(
     alloc: Global,
     desk: &SharedDesk<RandomState, B>,
     job: Job,
+    copied: &AtomicBool,
 ) -> Option<Work> {
     let mut seat = Seat::new(alloc, desk, desk.enter(rt).ok()?);
     let mut work = Work::none();
@@ -294,9 +305,36 @@ fn do_job<B: Naming, R: Wait + Clock>(
                 serve(rt, &mut seat, request, &mut work).ok()?;
             }
         }
-        Job::Copy => copy(rt, alloc, desk, &mut work).ok()?,
+        Job::ServeOn { first, pins } => {
+            serve_on(rt, alloc, &mut seat, (first, pins), copied, &mut work).ok()?
+        }
+        Job::Copy => {
+            let done = copy_often(rt, alloc, desk, &mut work);
+            copied.store(true, Ordering::SeqCst);
+            done.ok()?
+        }
     }
     Some(work)
+}
+
+/// Serves requests with keys drawn from those of so many pins, from a draw on, until the copies have ended.
+fn serve_on<B: Naming, R: Wait + Clock>(
+    rt: &R,
+    alloc: Global,
+    seat: &mut Seat<'_, RandomState, B>,
+    draws: (u32, u32),
+    copied: &AtomicBool,
+    work: &mut Work,
+) -> Result<()> {
+    let (mut draw, pins) = draws;
+    for _ in rt.forever() {
+        if copied.load(Ordering::SeqCst) {
+            break;
+        }
+        serve(rt, seat, request(alloc, drawn(draw, pins))?, work)?;
+        draw = draw.wrapping_add(1);
+    }
+    Ok(())
 }
 
 /// One whole request.
@@ -315,6 +353,19 @@ fn serve<B: Naming, R: Wait + Clock>(
     work.kept = work.kept.saturating_add(u64::from(how == ServedAs::Kept));
     if let Opening::Opened(slot) = seat.open(rt, server)? {
         seat.shut(rt, slot)?;
+    }
+    Ok(())
+}
+
+/// Copies all pins, and then the journal, and again.
+fn copy_often<B: Naming, R: Wait + Clock>(
+    rt: &R,
+    alloc: Global,
+    desk: &SharedDesk<RandomState, B>,
+    work: &mut Work,
+) -> Result<()> {
+    for _ in 0..COPIES {
+        copy(rt, alloc, desk, work)?;
     }
     Ok(())
 }

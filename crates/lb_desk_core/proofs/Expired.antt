@@ -1,8 +1,9 @@
 -- Pins that weren't used for long: where last uses never fall along the list, they are its first ones.
-use Rattle.std.proofs.Common.{◌≡◌, ℕ, ◌+◌, ◌<◌, ◌≤◌, suc, Bool, false, not, cond, Option, Some, None, List, [], ◌∷◌, length, refl, sym, ap, subst, ◌∙◌, arith}
-use Rattle.std.specs.Prelude.{filter, count_by}
+use Rattle.std.proofs.Common.{◌≡◌, ℕ, ◌+◌, ◌<◌, ◌≤◌, zero, suc, Bool, true, false, not, cond, Option, Some, None, List, [], ◌∷◌, length, get_or, take, replicate, refl, sym, ap, subst, ◌∙◌, le-leb, arith}
+use Rattle.std.specs.Prelude.{All, filter, count_by, nat_le}
 use Rattle.std.specs.Option.{option_map_or, option_and_then}
-use Rattle.std.proofs.lemmas.Bool.{leb-false, lt-leb}
+use Rattle.std.proofs.lemmas.Bool.{leb-true, leb-false, lt-leb}
+use Rattle.std.proofs.lemmas.List.Elements.{All-head, All-tail}
 use Rattle.lb_desk_model.specs.declared.backend.TableSettings.{TableSettings}
 use Rattle.lb_desk_model.specs.declared.table_pin.TablePin.{TablePin}
 use Rattle.lb_desk_seen.proofs.Placed.{filter-count}
@@ -95,3 +96,42 @@ never_counted settings now pins limit = none_counted (is_due settings now) pins 
 pub never_left : (settings : Option TableSettings) (now : ℕ) (pins : List TablePin) → limit_of settings ≡ None
     → pins ≡ filter (λ p. not (is_due settings now p)) pins
 never_left settings now pins limit = none_left (is_due settings now) pins (λ p. never_due settings now p limit)
+
+-- ---- all are due
+
+-- so long ago
+abbrev pub is_older_moment : ℕ → ℕ → ℕ → Bool
+is_older_moment latest limit now = nat_le (latest + limit) now
+
+-- where the latest moment is so long ago, a pin that wasn't used later is due
+older_all : (settings : Option TableSettings) (limit now latest : ℕ) (p : TablePin) → limit_of settings ≡ Some limit
+    → is_older_moment latest limit now ≡ true → p.last_use ≤ latest → is_due settings now p ≡ true
+older_all settings limit now latest p of_limit older used =
+    due_as_older settings limit now p of_limit ∙ le-leb (p.last_use + limit) now (omega (arith, used, leb-true (latest + limit) now older))
+
+pub none_stays : (settings : Option TableSettings) (limit now latest : ℕ) (pins : List TablePin) → limit_of settings ≡ Some limit
+    → is_older_moment latest limit now ≡ true → All (λ p. p.last_use ≤ latest) pins
+    → [] ≡ filter (λ p. not (is_due settings now p)) pins
+none_stays settings limit now latest [] of_limit older used = refl
+none_stays settings limit now latest (p ∷ pins) of_limit older used =
+    none_stays settings limit now latest pins of_limit older (All-tail (λ q. q.last_use ≤ latest) p pins used)
+    ∙ sym (ap (λ (b : Bool). cond (not b) (p ∷ filter (λ q. not (is_due settings now q)) pins) (filter (λ q. not (is_due settings now q)) pins))
+    (older_all settings limit now latest p of_limit older (All-head (λ q. q.last_use ≤ latest) p pins used)))
+
+pub all_counted : (settings : Option TableSettings) (limit now latest : ℕ) (pins : List TablePin) → limit_of settings ≡ Some limit
+    → is_older_moment latest limit now ≡ true → All (λ p. p.last_use ≤ latest) pins
+    → length pins ≡ count_by (is_due settings now) pins
+all_counted settings limit now latest pins of_limit older used =
+    omega (arith, ap (λ (left : List TablePin). length left) (none_stays settings limit now latest pins of_limit older used), filter-count (is_due settings now) pins)
+
+-- ---- books without pins
+
+abbrev pub zeros : ℕ → List ℕ
+zeros many = replicate many 0
+
+pub zero_at : (many few server : ℕ) → get_or (take few (zeros many)) server 0 ≡ 0
+zero_at zero zero server = refl
+zero_at zero (suc few) server = refl
+zero_at (suc many) zero server = refl
+zero_at (suc many) (suc few) zero = refl
+zero_at (suc many) (suc few) (suc server) = zero_at many few server

@@ -1,6 +1,6 @@
 -- Expiry as a step of each state that is shown.
 use Rattle.std.proofs.Common.{◌≡◌, ℕ, ◌<◌, ◌≤◌, Bool, true, false, not, max, Option, length, get_or, refl, sym, subst, arith}
-use Rattle.std.specs.Prelude.{nat_lt, filter, count_by}
+use Rattle.std.specs.Prelude.{All, nat_lt, filter, count_by}
 use Rattle.std.specs.List.{zip}
 use Rattle.std.proofs.Math.Nat.{min-le_left}
 use Rattle.std.proofs.lemmas.Bool.{leb-true, leb-false}
@@ -27,6 +27,12 @@ pub rising_pins : (shown : Seen) → IsReached shown → AreRising shown.pins
 rising_pins shown r =
     subst (λ (s : Seen). AreRising s.pins) r.reaches.is
     (pins_are_in_order_of_use r.backend r.log r.reaches.state r.reaches.history).rising
+
+-- no pin that is shown was used later than the latest request was served
+pub bounded_pins : (shown : Seen) → IsReached shown → All (λ p. p.last_use ≤ shown.latest) shown.pins
+bounded_pins shown r =
+    subst (λ (s : Seen). All (λ p. p.last_use ≤ s.latest) s.pins) r.reaches.is
+    (pins_are_in_order_of_use r.backend r.log r.reaches.state r.reaches.history).bounded
 
 -- ---- their places
 

@@ -1,5 +1,6 @@
-ghost use Rattle.std.specs.Prelude.{◌≡◌, ℕ, ◌+◌, ◌<◌, ◌≤◌, ◌^◌, not, nat_le, filter, count_by, length, IfSome, IfNone, if◌then◌else◌};
+ghost use Rattle.std.specs.Prelude.{◌≡◌, ℕ, ◌+◌, ◌<◌, ◌≤◌, ◌^◌, [], not, nat_le, filter, count_by, length, All, IfSome, IfNone, if◌then◌else◌};
 ghost use Rattle.std.specs.Option.{option_and_then};
+ghost use Rattle.lb_types.specs.declared.limits.TheConstants.{MAX_SERVERS};
 ghost use Rattle.capacity_book.specs.Book.{pins_at};
 ghost use Rattle.pin_set.specs.Assignments.{is_at};
 ghost use Rattle.pin_table.specs.Tables.{with_pins};
@@ -12,16 +13,19 @@ use crate::events::count;
 use crate::parts::Parts;
 use capacity_book::Book;
 use lb_desk_model::{Event, Reply, TableSettings};
-use lb_types::{Moment, Place};
+use lb_types::{MAX_SERVERS, Moment, Place};
 use pin_table::Table;
 use std::hash::BuildHasher;
+
+/// Fewer pins are let go one by one, since what it costs to empty a table grows with the most pins that it ever had.
+const MANY: usize = 1024;
 
 impl<S: BuildHasher> Core<S> {
     /// Lets every pin go that wasn't used for as long as the table's `expire` says. Without a table, or without `expire`, none
     /// goes. A moment before that of the latest request served counts as the latest.
     ///
     /// It costs one look at the pin that wasn't used for longest, a few machine instructions, and taking out each pin that
-    /// goes. It takes no memory.
+    /// goes; where all go and are many, they go at once in one walk that hashes nothing. It takes no memory.
     pub fn expire(&mut self, now: Moment) -> Reply
         requires version { self.old.shown.version < 2 ^ 63 }
         requires uses { self.old.uses ≤ 2 ^ 63 }
@@ -41,6 +45,8 @@ impl<S: BuildHasher> Parts<S> {
         requires uses { self.old.uses ≤ 2 ^ 63 }
         requires rising { AreRising self.old.shown.pins }
         requires placed { ArePlaced (length self.old.shown.names) self.old.shown.pins }
+        requires latest { All (λ p. p.last_use ≤ self.old.shown.latest) self.old.shown.pins }
+        requires few { length self.old.shown.names ≤ MAX_SERVERS }
         ensures acts { ActsOn self.old.shown (Event.Expire now) (Reply.Expired result) self.new.shown }
         ensures version { self.new.shown.version ≡ self.old.shown.version }
         ensures connections { self.new.shown.connections ≡ self.old.shown.connections }
@@ -50,6 +56,10 @@ impl<S: BuildHasher> Parts<S> {
             return 0;
         };
         let now = Moment::from_millis(self.latest.as_millis().max(now.as_millis()));
+        // No pin was used later than the latest request was served, so then all are due.
+        if self.table.len() >= MANY && is_older(self.latest, limit, now) {
+            return let_all_go(&mut self.table, &mut self.book, self.names.len());
+        }
         let_go(&mut self.table, &mut self.book, limit, now)
     }
 }
@@ -59,6 +69,23 @@ fn limit_of(settings: Option<TableSettings>) -> Option<u32>
     ensures { result ≡ option_and_then (λ table. table.expire) settings }
 {
     settings?.expire
+}
+
+/// Lets all pins go, and gives how many they were.
+fn let_all_go<S: BuildHasher>(table: &mut Table<S>, book: &mut Book, servers: usize) -> u64
+    requires many { length book.old.pins ≡ servers }
+    requires few { servers ≤ MAX_SERVERS }
+    ensures gone { result ≡ length table.old.pins }
+    ensures left { table.new ≡ with_pins table.old [] }
+    ensures counted { (server : ℕ) → pins_at book.new server ≡ 0 }
+    ensures many { length book.new.pins ≡ length book.old.pins }
+    ensures connections { book.new.connections ≡ book.old.connections }
+{
+    let gone = table.len();
+    table.clear();
+    let none = [0; MAX_SERVERS];
+    book.reload(&none[..servers]);
+    gone as u64
 }
 
 /// Lets the pins go that weren't used for so long, and gives how many they were. They are the table's first ones.

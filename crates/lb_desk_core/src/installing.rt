@@ -28,8 +28,8 @@ impl<S: BuildHasher> Core<S> {
     /// the plan sends it.
     ///
     /// It costs what the sheet, the check and sharing out the moves cost, which don't grow with the pins, and then one walk over
-    /// the pins, which hashes nothing and looks each pin's move up in a binary search. It takes memory for all but the walk; want of
-    /// it is the one error, and then nothing has changed.
+    /// the pins, which hashes no name and mostly looks at two moves for each pin. It takes memory for all but the walk; want of it is
+    /// the one error, and then nothing has changed.
     pub fn install(&mut self, alloc: Global, plan: &Plan) -> Result<Reply, AllocError>
         requires { self.old.shown.version < 2 ^ 63 }
         ensures steps { IfOk result (λ reply. Steps self.old.shown (Event.Install plan.now) reply self.new.shown) }

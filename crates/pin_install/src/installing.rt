@@ -20,8 +20,8 @@ use std::hash::BuildHasher;
 /// the plan's score, or the first fault that the check finds. Neither the versions are compared nor the table's version counted on.
 ///
 /// Fails where there is no memory; then nothing has changed, nor where the plan is refused. It takes memory for the counts, the
-/// sheet, the moves and the counts behind them, and none for any pin. It costs one pass over the pins, in which each takes one binary
-/// search among the moves, and besides what the counts and the plan's rows cost.
+/// sheet, the moves and the counts behind them, and none for any pin. It costs one pass over the pins, in which each takes a look at
+/// two moves, or a binary search among them where its kind is met for the first time, and besides what the counts and the plan's rows cost.
 pub fn install<S: BuildHasher>(
     alloc: Global,
     table: &mut Table<S>,

@@ -1,5 +1,5 @@
 -- Moves are handed out pin by pin: what is left of them stays in order.
-use Rattle.std.proofs.Common.{◌≡◌, ◌⊎◌, ℕ, ◌+◌, ◌-◌, ◌≤◌, Bool, true, false, ◌&&◌, cond, Option, List, [], ◌∷◌, get_or, set, refl, sym, ap, ◌∙◌, inl, inr, arith}
+use Rattle.std.proofs.Common.{◌≡◌, ◌⊎◌, ℕ, ◌+◌, ◌-◌, ◌<◌, ◌≤◌, Bool, true, false, ◌&&◌, cond, Option, List, [], ◌∷◌, length, get_or, set, refl, sym, ap, ◌∙◌, inl, inr, arith}
 use Rattle.std.specs.List.{sum_by, All, AllPairs}
 use Rattle.std.proofs.lemmas.Bool.{and_parts, or_cases}
 use Rattle.std.proofs.lemmas.List.{get_or_default}
@@ -11,7 +11,7 @@ use Rattle.pin_set.specs.Rows.{is_move}
 use Rattle.pin_moves.specs.declared.a_move.Move.{Move}
 use Rattle.pin_moves.specs.Handed.{AreHandedInOrder}
 use Rattle.pin_moves.specs.Moves.{moved_pins, moved_kind, move_before, moved_with, NothingIsLeft}
-use Rattle.pin_moves.proofs.Taking.{AreOrdered, IsFirstLeft, pairs_set}
+use Rattle.pin_moves.proofs.Taking.{AreOrdered, IsFirstLeft, both, found, left_of, pairs_set, partitioned, passed, refuted}
 
 pub order_start : (moves : List Move) → AllPairs (λ a b. move_before a b ≡ true) moves → All (λ m. 1 ≤ m.count) moves
     → AreHandedInOrder moves
@@ -26,6 +26,40 @@ ordered_moves left order = record { rising = λ i j d below inside. earlier (get
           | inl pins ↦ inl pins
           | inr same ↦ inr (same_kind-true (moved_pins a) (moved_pins b) (and_parts (same_kind (moved_pins a) (moved_pins b)) (place_before a.to b.to) same).0)
         ]
+
+abbrev pub passed_by : PinKind → Move → Bool
+passed_by pins m = passed moved_pins (λ (n : Move). n.count) pins m
+
+abbrev pub IsFirst : List Move → PinKind → ℕ → Type 0
+IsFirst left pins at = IsFirstLeft moved_pins (λ (m : Move). m.count) left pins at
+
+-- where the first move isn't passed, it is the first with some left
+pub first_of_all : (left : List Move) (pins : PinKind) (at : ℕ) (m : Move) → AreHandedInOrder left → at ≡ 0 → at < length left → m ≡ get_or left at m
+    → passed_by pins m ≡ false → 1 ≤ sum_by (left_of moved_pins (λ (m : Move). m.count) pins) left → IsFirst left pins at
+first_of_all left pins at m order zero within is here some =
+    let ordered = ordered_moves left order in
+    let parted = partitioned moved_pins (λ (m : Move). m.count) left pins ordered in
+    let at_first : (d : Move) → passed_by pins (get_or left at d) ≡ false =
+    λ d. ap (passed_by pins) (sym (is ∙ get_or_default left at m d within)) ∙ here in
+    found moved_pins (λ (m : Move). m.count) left pins at ordered (λ k d low. absurd (omega (arith, low, zero)))
+    (λ k d from below. refuted (passed_by pins (get_or left k d)) (λ past. both (passed_by pins (get_or left at d)) (at_first d) (parted at k d from below past)))
+    some
+
+-- where a move isn't passed and the one before it is, it is the first with some left
+pub first_behind : (left : List Move) (pins : PinKind) (at : ℕ) (m n : Move) → AreHandedInOrder left → at < length left → 1 ≤ at
+    → m ≡ get_or left at m → passed_by pins m ≡ false → n ≡ get_or left (at - 1) n → passed_by pins n ≡ true
+    → 1 ≤ sum_by (left_of moved_pins (λ (m : Move). m.count) pins) left → IsFirst left pins at
+first_behind left pins at m n order within high is here before past some =
+    let ordered = ordered_moves left order in
+    let parted = partitioned moved_pins (λ (m : Move). m.count) left pins ordered in
+    let at_m : (d : Move) → passed_by pins (get_or left at d) ≡ false =
+    λ d. ap (passed_by pins) (sym (is ∙ get_or_default left at m d within)) ∙ here in
+    let at_n : (d : Move) → passed_by pins (get_or left (at - 1) d) ≡ true =
+    λ d. ap (passed_by pins) (sym (before ∙ get_or_default left (at - 1) n d (omega (arith, within)))) ∙ past in
+    found moved_pins (λ (m : Move). m.count) left pins at ordered
+    (λ k d low. parted k (at - 1) d (omega (arith, low)) (omega (arith, within, high)) (at_n d))
+    (λ k d from below. refuted (passed_by pins (get_or left k d)) (λ is_past. both (passed_by pins (get_or left at d)) (at_m d) (parted at k d from below is_past)))
+    some
 
 -- the move with one pin fewer
 abbrev pub less : Move → Move

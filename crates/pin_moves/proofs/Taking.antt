@@ -23,6 +23,10 @@ pub decided : (b : Bool) → (b ≡ false → 1 ≤ 0) → b ≡ true
 decided true never = refl
 decided false never = absurd (omega (arith, never refl))
 
+pub refuted : (b : Bool) → (b ≡ true → 1 ≤ 0) → b ≡ false
+refuted true never = absurd (omega (arith, never refl))
+refuted false never = refl
+
 -- ---- the first that has some left
 
 pub record AreOrdered {X : Type 0} (key : X → PinKind) (count : X → ℕ) (xs : List X) : Type 0 where

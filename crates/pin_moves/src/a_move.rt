@@ -1,4 +1,5 @@
 use lb_types::{Place, ServerSet};
+use lb_types_pins::PinKind;
 
 /// Pins of one place, wanted servers and cost that go to one place, which may be the one where they are.
 #[derive(Clone, Copy, Debug, PartialEq, Eq, Hash)]
@@ -18,15 +19,18 @@ pub struct Move {
 impl Move {
     ghost use Rattle.std.specs.Prelude.{◌≡◌, ◌&&◌, ◌||◌, ◌==◌};
     ghost use Rattle.lb_types_pins.specs.Kinds.{kind_before, same_kind};
-    ghost use Rattle.pin_moves.specs.Moves.{moved_pins, pins_of};
+    ghost use Rattle.pin_moves.specs.Moves.{moved_pins};
 
-    /// Whether it stands before all that is left for these pins.
-    pub(crate) fn is_passed(&self, place: Place, want: ServerSet, cost: u16) -> bool
-        ensures { result ≡ (kind_before (moved_pins self.now) (pins_of place want cost)
-            || (same_kind (moved_pins self.now) (pins_of place want cost) && self.now.count == 0)) }
+    /// Whether it stands before all that is left for these pins. Of them the permitted servers are those that they want.
+    pub(crate) fn is_passed(&self, pins: &PinKind) -> bool
+        ensures { result ≡ (kind_before (moved_pins self.now) pins.now
+            || (same_kind (moved_pins self.now) pins.now && self.now.count == 0)) }
     {
-        let own = (self.place, self.want, self.cost);
-        let pins = (place, want, cost);
-        own < pins || own == pins && self.count == 0
+        let own = PinKind {
+            place: self.place,
+            permitted: self.want,
+            cost: self.cost,
+        };
+        own < *pins || own == *pins && self.count == 0
     }
 }

@@ -1,16 +1,19 @@
-ghost use Rattle.std.specs.Prelude.{◌≡◌, ℕ, ◌+◌, ◌<◌, ◌≤◌, true, All, AllPairs, length, slice_index_or};
+ghost use Rattle.std.specs.Prelude.{◌≡◌, ℕ, ◌+◌, ◌<◌, ◌≤◌, true, IsTrue, All, AllPairs, length, slice_index_or};
 ghost use Rattle.pin_moves.specs.declared.a_move.Move.{Move as AnyMove};
 ghost use Rattle.pin_moves.specs.Handed.{AreHandedInOrder};
 ghost use Rattle.pin_moves.specs.Moves.{moved_pins, move_before, moved_with, pins_of, IsHandedOut, NothingIsLeft};
 
 use crate::Move;
+use crate::hints::{Hints, slot_of};
 use lb_types::{Place, ServerSet};
+use lb_types_pins::PinKind;
 use std::marker::Model;
 
 /// Moves that are handed out pin by pin: where the pins of each place, wanted servers and cost are still to go, and how many.
 #[derive(Debug, Drop)]
 pub struct Moving {
     left: Vec<Move>,
+    hints: Hints,
 }
 
 impl Model for Moving {
@@ -32,7 +35,10 @@ impl Moving {
         requires some { All (λ m. 1 ≤ m.count) moves.items }
         ensures { result ≡ moves.items }
     {
-        Moving { left: moves }
+        Moving {
+            left: moves,
+            hints: Hints::none(),
+        }
     }
 
     /// The moves that are left. Some may have no pins left.
@@ -43,29 +49,56 @@ impl Moving {
     }
 
     /// Where one more of the pins of this place, these wanted servers and this cost goes, of which one has to be left. It takes no
-    /// memory, and one binary search among the moves.
+    /// memory. Mostly it costs a look at two moves, and where pins of a kind are asked for the first time, or where those of another
+    /// kind were looked up in between that have its hash, one binary search among the moves.
     pub fn next(&mut self, place: Place, want: ServerSet, cost: u16) -> Place
         requires { 1 ≤ moved_with self.old place want cost }
         ensures { IsHandedOut place want cost result self.old self.new }
     {
-        let at = first_left(&self.left, place, want, cost);
+        let pins = PinKind {
+            place,
+            permitted: want,
+            cost,
+        };
+        let slot = slot_of(&pins);
+        let at = first_left(&self.left, self.hints.get(slot), &pins);
+        self.hints.set(slot, at);
         let next = &mut self.left[at];
         next.count -= 1;
         next.to
     }
 }
 
-/// The first move of these pins that has some left.
-fn first_left(left: &[Move], place: Place, want: ServerSet, cost: u16) -> usize
+/// The first move of these pins that has some left. The hint may be wrong.
+fn first_left(left: &[Move], hint: usize, pins: &PinKind) -> usize
     requires ordered { AreHandedInOrder left.now }
-    requires some { 1 ≤ moved_with left.now place want cost }
+    requires some { 1 ≤ moved_with left.now pins.now.place pins.now.permitted pins.now.cost }
     ensures within { result < length left.now }
-    ensures pins { (d : AnyMove) → moved_pins (slice_index_or left.now result d) ≡ pins_of place want cost }
+    ensures pins { (d : AnyMove) → moved_pins (slice_index_or left.now result d) ≡ pins.now }
     ensures some { (d : AnyMove) → 1 ≤ (slice_index_or left.now result d).count }
-    ensures first { (k : ℕ) (d : AnyMove) → k < result → moved_pins (slice_index_or left.now k d) ≡ pins_of place want cost
+    ensures first { (k : ℕ) (d : AnyMove) → k < result → moved_pins (slice_index_or left.now k d) ≡ pins.now
         → (slice_index_or left.now k d).count ≡ 0 }
 {
-    left.partition_point(|m| m.is_passed(place, want, cost))
+    if is_first_left(left, hint, pins) {
+        return hint;
+    }
+    left.partition_point(|m| m.is_passed(pins))
+}
+
+/// Whether this is the first move of these pins that has some left.
+fn is_first_left(left: &[Move], at: usize, pins: &PinKind) -> bool
+    requires ordered { AreHandedInOrder left.now }
+    requires some { 1 ≤ moved_with left.now pins.now.place pins.now.permitted pins.now.cost }
+    ensures within { IsTrue result → at < length left.now }
+    ensures pins { IsTrue result → (d : AnyMove) → moved_pins (slice_index_or left.now at d) ≡ pins.now }
+    ensures some { IsTrue result → (d : AnyMove) → 1 ≤ (slice_index_or left.now at d).count }
+    ensures first { IsTrue result → (k : ℕ) (d : AnyMove) → k < at
+        → moved_pins (slice_index_or left.now k d) ≡ pins.now → (slice_index_or left.now k d).count ≡ 0 }
+{
+    if at >= left.len() || left[at].is_passed(pins) {
+        return false;
+    }
+    at == 0 || left[at - 1].is_passed(pins)
 }
 
 /// Where no pins of any place, wanted servers and cost are left, none of any kind of a plan are to go anywhere.

@@ -10,6 +10,7 @@
 
 mod a_move;
 mod handed;
+mod hints;
 mod passes;
 mod sharing;
 

@@ -103,6 +103,15 @@ impl Log {
         self.places.pop_front().unwrap()
     }
 
+    /// Takes all places and holes out. The room that they had stays.
+    pub(crate) fn clear(&mut self)
+        ensures places { self.new.places.items ≡ [] }
+        ensures first { self.new.first ≡ self.old.first }
+        ensures capacity { deque_capacity self.new.places ≡ deque_capacity self.old.places }
+    {
+        self.places.clear();
+    }
+
     /// Writes a place, or a hole, under a number that the log has.
     pub(crate) fn put(&mut self, number: u64, place: u32)
         requires from_first { self.old.first ≤ number }

@@ -129,6 +129,15 @@ impl<K: Eq + Hash, V: Drop, S: BuildHasher> Recent<K, V, S> {
 }
 
 impl<K: Eq + Hash + Drop, V: Drop, S: BuildHasher> Recent<K, V, S> {
+    /// Takes all pairs out, without memory; what they had is kept for others. It hashes nothing, and costs one walk over the pairs
+    /// and over what finds them, which has the size that the map once had.
+    pub fn clear(&mut self)
+        ensures pairs { self.new.pairs ≡ [] }
+        ensures uses { self.new.uses ≡ self.old.uses }
+    {
+        self.store.clear();
+    }
+
     /// Puts a pair whose key isn't there behind the others.
     ///
     /// Fails, with the pair handed back, where there is no memory, or with 4294967294 pairs there.

@@ -258,6 +258,17 @@ impl<K: Eq + Hash, V, S: BuildHasher> Store<K, V, S> {
 }
 
 impl<K: Eq + Hash + Drop, V: Drop, S: BuildHasher> Store<K, V, S> {
+    /// Takes all pairs out. The room that they had stays.
+    pub(crate) fn clear(&mut self)
+        ensures ordered { Ordered self.new }
+        ensures trim { Trim self.new }
+        ensures stored { stored self.new ≡ [] }
+        ensures spent { spent self.new ≤ spent self.old }
+    {
+        self.map.clear();
+        self.log.clear();
+    }
+
     /// Puts a pair whose key isn't there behind the others.
     pub(crate) fn push(&mut self, key: K, value: V) -> Result<(), AllocFailed<(K, V)>>
         requires ordered { Ordered self.old }

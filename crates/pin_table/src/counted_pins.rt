@@ -185,6 +185,14 @@ impl<S: BuildHasher> CountedPins<S> {
         let _ = self.pop_oldest();
     }
 
+    /// Lets all pins go.
+    pub(crate) fn clear(&mut self)
+        ensures { self.new ≡ used_pins [] self.old.uses }
+    {
+        self.pins.clear();
+        self.counts.clear();
+    }
+
     /// Copies of the pins, in order of last use.
     pub(crate) fn rows(&self, alloc: Global) -> Result<Vec<TablePin>, AllocError>
         ensures { IfOk result (λ rows. rows.items ≡ self.now.pins) }
@@ -211,7 +219,7 @@ impl<S: BuildHasher> CountedPins<S> {
         ensures rising { IfOk result (λ counts. AreRisingCounts counts.items) }
         ensures exact { IfOk result (λ counts. ArePinCounts self.now.pins counts.items) }
     {
-        let mut counts = Vec::new(alloc);
+        let mut counts = Vec::with_capacity(alloc, self.counts.len())?;
         for (kind, count) in self.counts.iter() {
             counts.push(PinCount {
                 place: kind.place,

@@ -212,6 +212,14 @@ impl<S: BuildHasher> Table<S> {
         self.pins.pop_oldest()
     }
 
+    /// Lets all pins go, without memory; what they had is kept for others. It hashes nothing, and costs one walk over the pins and
+    /// over what finds them, which has the size that the table once had.
+    pub fn clear(&mut self)
+        ensures { self.new ≡ with_pins self.old [] }
+    {
+        self.pins.clear();
+    }
+
     /// Copies of the pins, in order of last use, the one that wasn't used for longest first. It is no use of any pin.
     ///
     /// It costs one walk over the pins and a copy of each key, and hashes nothing. It takes memory for the list and for the keys

@@ -3,8 +3,8 @@
 use crate::marks::{begin, end, tell};
 use http_relay_dial::{DialScript, ScriptedDialer};
 use http_relay_head::HEAD_ROOM;
-use http_relay_serve::{Cause, Client, Outcome, Worker, serve_one};
-use http_relay_wire::{Script, ScriptedWire};
+use http_relay_serve::{Cause, Client, DropCause, Outcome, Worker, serve_one};
+use http_relay_wire::{Script, ScriptedWire, WireFault};
 use lb_config::{Config, read_config};
 use lb_desk_model::{Entry, Reply, ServedAs};
 use lb_desk_ports::{
@@ -39,6 +39,12 @@ const RESPONSE: &[u8] = b"HTTP/1.1 200 OK\r\n\r\nok";
 const INTERNAL_SERVER_ERROR: &[u8] =
     b"HTTP/1.1 500 Internal Server Error\r\nContent-Length: 0\r\nConnection: close\r\n\r\n";
 
+const BAD_GATEWAY: &[u8] =
+    b"HTTP/1.1 502 Bad Gateway\r\nContent-Length: 0\r\nConnection: close\r\n\r\n";
+
+const SERVICE_UNAVAILABLE: &[u8] =
+    b"HTTP/1.1 503 Service Unavailable\r\nContent-Length: 0\r\nConnection: close\r\n\r\n";
+
 /// A backend that gives each request its one server.
 fn port() -> PortScript<'static> {
     PortScript {
@@ -59,8 +65,15 @@ struct Served {
     is_slot_back: bool,
 }
 
-/// Relays the upload. The call is marked.
-fn serve<R>(rt: &R, alloc: Global, config: &Config) -> Result<Served, Fail> {
+/// Whether a call's requests for memory may be refused.
+#[derive(Clone, Copy, PartialEq, Eq)]
+enum Memory {
+    Refused,
+    Given,
+}
+
+/// Relays the upload.
+fn serve<R>(rt: &R, alloc: Global, config: &Config, memory: Memory) -> Result<Served, Fail> {
     let Some(routes) = ConfigRoutes::at(config, 0) else {
         return Err(Fail::new("no frontend"));
     };
@@ -80,7 +93,9 @@ fn serve<R>(rt: &R, alloc: Global, config: &Config) -> Result<Served, Fail> {
     if config.backends().len() > ports.len() {
         return Err(Fail::new("several backends"));
     }
-    begin(alloc)?;
+    if memory == Memory::Refused {
+        begin(alloc)?;
+    }
     let outcome = serve_one(
         rt,
         alloc,
@@ -90,7 +105,9 @@ fn serve<R>(rt: &R, alloc: Global, config: &Config) -> Result<Served, Fail> {
         &mut client,
         &mut room,
     );
-    end(alloc)?;
+    if memory == Memory::Refused {
+        end(alloc)?;
+    }
     Ok(Served {
         outcome,
         answer: Vec::from_slice(alloc, client.wire.written())?,
@@ -125,11 +142,39 @@ fn count(entries: &[Entry], reply: &Reply) -> usize {
 /// Whether the outcome says that memory was wanting.
 fn is_for_memory(outcome: &Outcome) -> bool {
     match outcome {
-        Outcome::Answered(Cause::HeadMemory) => true,
-        Outcome::Answered(Cause::RequestMemory) => true,
-        Outcome::Answered(Cause::RequestRefused(Refused::Memory)) => true,
-        Outcome::Answered(Cause::OpenRefused(Refused::Memory)) => true,
+        Outcome::Answered(cause) => is_memory(*cause),
+        Outcome::Dropped(DropCause::AnswerNotTaken(cause, WireFault::Broken)) => is_memory(*cause),
         _ => false,
+    }
+}
+
+fn is_memory(cause: Cause) -> bool {
+    match cause {
+        Cause::HeadMemory => true,
+        Cause::RequestMemory => true,
+        Cause::RequestRefused(Refused::Memory) => true,
+        Cause::OpenRefused(Refused::Memory) => true,
+        _ => false,
+    }
+}
+
+/// Whether the client got what is owed for an outcome without memory: a wire that is refused it breaks.
+fn is_owed(served: &Served) -> bool {
+    let answer = served.answer.as_slice();
+    match served.outcome {
+        Outcome::Relayed => answer == RESPONSE,
+        Outcome::Answered(Cause::HeadNotTaken(WireFault::Broken)) => answer == BAD_GATEWAY,
+        Outcome::Answered(Cause::BodyNotTaken(WireFault::Broken)) => answer == BAD_GATEWAY,
+        Outcome::Answered(Cause::ResponseBroken) => answer == BAD_GATEWAY,
+        Outcome::Answered(Cause::NotDialled(WireFault::Broken)) => answer == SERVICE_UNAVAILABLE,
+        Outcome::Answered(cause) => {
+            is_memory(cause) && answer == INTERNAL_SERVER_ERROR && served.sent.is_none()
+        }
+        Outcome::Dropped(DropCause::ResponseNotTaken(WireFault::Broken)) => {
+            RESPONSE.starts_with(answer)
+        }
+        Outcome::Dropped(DropCause::AnswerNotTaken(_, WireFault::Broken)) => answer.is_empty(),
+        Outcome::Dropped(_) => false,
     }
 }
 
@@ -137,17 +182,14 @@ fn is_for_memory(outcome: &Outcome) -> bool {
 fn a_chunked_upload(rt: HostRuntime) -> Result<(), Fail> {
     let alloc = rt.alloc();
     let config = read_config(alloc, TEXT)?;
-    let mut last = serve(&rt, alloc, &config)?;
+    let mut last = serve(&rt, alloc, &config, Memory::Refused)?;
     assert!(rt; last.is_slot_back, "a slot is kept");
+    assert!(rt; is_owed(&last), "not owed for {:?}", last.outcome);
     if is_for_memory(&last.outcome) {
         tell(alloc)?;
-        assert!(rt;
-            last.answer.as_slice() == INTERNAL_SERVER_ERROR && last.sent.is_none(),
-            "not answered 500 before the dial"
-        );
     }
     if last.outcome != Outcome::Relayed {
-        last = serve(&rt, alloc, &config)?;
+        last = serve(&rt, alloc, &config, Memory::Given)?;
     }
     assert_eq!(rt; last.outcome, Outcome::Relayed);
     assert!(rt;

@@ -1,7 +1,7 @@
 use Rattle.std.proofs.Common.{arith, rules}
 use Rattle.std.proofs.lemmas.List.Sorted.{IsPartitionPoint-from_clause}
 use Rattle.pin_moves.specs.declared.a_move.Move.{Move}
-use Rattle.pin_moves.specs.Moves.{moved_pins, pins_of}
+use Rattle.pin_moves.specs.Moves.{moved_pins}
 use Rattle.pin_moves.proofs.Handing.{ordered_moves}
 use Rattle.pin_moves.proofs.Taking.{passed, partitioned, found}
 use Rattle.pin_moves.proofs.handed.first_left.Goals as goal
@@ -9,7 +9,7 @@ use Rattle.pin_moves.proofs.handed.first_left.Goals as goal
 pub returns : goal.returns
 returns c =
     let left = c.args.left.now in
-    let pins = pins_of c.args.place c.args.want c.args.cost in
+    let pins = c.args.pins.now in
     let ordered = ordered_moves left c.requires.ordered in
     let point = IsPartitionPoint-from_clause (passed moved_pins (λ (m : Move). m.count) pins) _ _ c.partition_point.ensures.partitioned
     (partitioned moved_pins (λ (m : Move). m.count) left pins ordered) (λ a r q k. search rules) in

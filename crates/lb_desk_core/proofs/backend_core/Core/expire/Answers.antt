@@ -5,8 +5,9 @@ use Rattle.lb_desk_model.specs.declared.reply.Reply.TheVariants.{Expired}
 use Rattle.lb_desk_model.specs.Seen.{Seen}
 use Rattle.lb_desk_core.specs.Acting.{ActsOn}
 use Rattle.lb_desk_core.specs.Parts.{shown_of}
-use Rattle.lb_desk_core.proofs.ExpirySteps.{rising_pins, placed_pins, expiry_steps}
+use Rattle.lb_desk_core.proofs.ExpirySteps.{rising_pins, placed_pins, bounded_pins, expiry_steps}
 use Rattle.lb_desk_core.proofs.Reached.{reached_further}
+use Rattle.lb_desk_core.proofs.Snapshots.{reached_few}
 use Rattle.lb_desk_core.proofs.backend_core.Core.expire.Goals as goal
 
 pub expire-gone-requires-clause-rising : goal.expire-gone-requires-clause-rising
@@ -14,6 +15,12 @@ expire-gone-requires-clause-rising g c = rising_pins c.self.inside.parts.shown c
 
 pub expire-gone-requires-clause-placed : goal.expire-gone-requires-clause-placed
 expire-gone-requires-clause-placed g c = placed_pins c.self.inside.parts.shown c.self.invariant
+
+pub expire-gone-requires-clause-latest : goal.expire-gone-requires-clause-latest
+expire-gone-requires-clause-latest g c = bounded_pins c.self.inside.parts.shown c.self.invariant
+
+pub expire-gone-requires-clause-few : goal.expire-gone-requires-clause-few
+expire-gone-requires-clause-few g c = reached_few c.self.inside.parts.shown c.self.invariant
 
 pub returns-clause-steps : goal.returns-clause-steps
 returns-clause-steps g c =
