@@ -147,7 +147,9 @@ fn pops_as_used<S: BuildHasher + Drop>(table: &mut Table<S>, kinds: Vec<Kind>) -
         let Some((name, held)) = table.pop_oldest() else {
             return false;
         };
-        let in_order = name == name_of(*number) && held.last_use.as_millis() == place as u64;
+        let expected = name_of(*number);
+        let is_it = name == expected;
+        let in_order = is_it && held.last_use.as_millis() == place as u64;
         if !in_order || !take(&mut kinds, name.want.len(), &held) {
             return false;
         }
