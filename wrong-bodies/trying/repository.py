@@ -92,8 +92,9 @@ PRIVATE_FIELD = re.compile(r"^[ \t]*(?!pub\b|#)\w+[ \t]*:[^\n]*\n", re.M)
 IMPORT = re.compile(r"^[ \t]*(?:use|ghost use|mod|pub mod)\b[^;]*;", re.M)
 PRIVATE_CONSTANT = re.compile(r"^[ \t]*(?:pub\(crate\) )?const\b[^;]*;", re.M)
 PRIVATE_STRUCT = re.compile(r"(?:#\[[^\]]*\]\s*)*(?:\bpub\(crate\) |(?<!pub )\b)struct\s+\w+[^;{}()]*\{")
+VIEW = re.compile(r"\bghost\s+(?:view|inverse|invariant)\s*=\s*\{")
 EMPTY = re.compile(r"\b(?:impl|where)\b[^{};]*\{\s*\}")
-PROMISE = re.compile(r"\bghost\s+(?:laws|respects_eq|is_infallible)\s*=\s*\{")
+PROMISE = re.compile(r"\bghost\s+(?:laws|hash_input|respects_eq|is_infallible)\s*=\s*\{")
 
 
 def without(opening: re.Pattern[str], text: str) -> str:
@@ -109,8 +110,9 @@ def without(opening: re.Pattern[str], text: str) -> str:
 
 def definitions_of(file: str, text: str) -> str:
     """Returns what a source file defines for others, without comments: its public types, but for private fields, its models, traits
-    and constants, and what it takes a trait's words for, but for laws and for when a call can't fail. Of functions it has those of
-    traits alone."""
+    and constants, and what it takes a trait's words for, but for laws, for when a call can't fail, and for what a hasher is fed, since
+    promises hold for any hash. Of a type without public fields its view and its invariant are left out too, which no other crate sees. Of
+    functions it has those of traits alone."""
     kept, last = [], 0
     for one in sorted(functions_of(file, text).values(), key=lambda it: it.start):
         is_of_trait = not one.owner and len(one.path) > len(module_of(file)) + 1
@@ -126,7 +128,13 @@ def definitions_of(file: str, text: str) -> str:
         if not bare:
             return re.sub(r" +", " ", EMPTY.sub("", code_of(rest))).strip()
         start, end = bare[0]
-        rest = rest[:start] + PRIVATE_FIELD.sub("", rest[start:end]) + rest[end:]
+        name = re.findall(r"\bstruct\s+(\w+)", rest[:start])[-1]
+        fields = PRIVATE_FIELD.sub("", rest[start:end])
+        rest = rest[:start] + fields + rest[end:]
+        found = re.search(rf"\bModel for {name}\b[^{{}}]*\{{", masked(rest))
+        if found and "pub " not in fields:
+            end = closing(masked(rest), found.end() - 1)
+            rest = rest[: found.start()] + without(VIEW, rest[found.start() : end]) + rest[end:]
 
 
 TESTS = re.compile(r"\s*#\[cfg\(test\)\]\s*mod\s+(\w+)\s*([;{])")

@@ -1,9 +1,10 @@
 //! Heads, bodies and responses that are relayed over memory, to be timed from outside.
 //!
-//! The first word says how often, the second one what: `heads`, `hostile`, `bodies`, `chunks`, `small_chunks` or
-//! `responses`; with no second word all of them. A head has 500 bytes and 12 fields, a hostile one nearly the most bytes and
-//! fields that it may have; each is read, judged and rewritten. A body has 1,024,000 bytes. How many bytes went out is printed,
-//! so that no work can be left out.
+//! The first word says how often, the second one what: `heads`, `hostile`, `bodies`, `chunks`, `small_chunks`, `size_lines`,
+//! `trailers` or `responses`; with no second word all of them. A head has 500 bytes and 12 fields, a hostile one nearly the most
+//! bytes and fields that it may have; each is read, judged and rewritten. A body has 1,024,000 bytes, but for those that are
+//! hostile: 1,000 chunks of a byte whose size lines are as long as they may be, and a trailer of one field that is nearly as long
+//! as it may be. How many bytes went out is printed, so that no work can be left out.
 
 ghost use Rattle.std.specs.Prelude.{◌<◌};
 
@@ -24,12 +25,14 @@ const HEAD: &[u8] =
 const SIZE: usize = 1_024_000;
 
 /// What can be relayed.
-const PARTS: [&str; 6] = [
+const PARTS: [&str; 8] = [
     "heads",
     "hostile",
     "bodies",
     "chunks",
     "small_chunks",
+    "size_lines",
+    "trailers",
     "responses",
 ];
 
@@ -52,6 +55,8 @@ fn relay_part(rt: &impl Runtime, alloc: Global, part: &str, times: u32) -> Resul
         "bodies" => send_bodies(alloc, BodyKind::Length(SIZE as u64), &plain(alloc)?, times)?,
         "chunks" => send_chunks(alloc, 16000, b"3e80\r\n", times)?,
         "small_chunks" => send_chunks(alloc, 100, b"64\r\n", times)?,
+        "size_lines" => send_bodies(alloc, BodyKind::Chunked, &long_size_lines(alloc)?, times)?,
+        "trailers" => send_bodies(alloc, BodyKind::Chunked, &long_trailer(alloc)?, times)?,
         _ => copy_responses(alloc, &plain(alloc)?, times)?,
     };
     println!(rt; "{part}, {times} times: {sent} bytes")?;
@@ -136,5 +141,27 @@ fn chunked(alloc: Global, size: usize, size_line: &[u8]) -> Result<Vec<u8>, Allo
         body.extend_from_slice(b"\r\n")?;
     }
     body.extend_from_slice(b"0\r\n\r\n")?;
+    Ok(body)
+}
+
+/// A thousand chunks of a byte, each with a size line of 256 bytes.
+fn long_size_lines(alloc: Global) -> Result<Vec<u8>, AllocError> {
+    let extension = vec![in alloc; b'a'; 252]?;
+    let mut body = Vec::new(alloc);
+    for _ in 0..1000 {
+        body.extend_from_slice(b"1;")?;
+        body.extend_from_slice(&extension)?;
+        body.extend_from_slice(b"\r\nx\r\n")?;
+    }
+    body.extend_from_slice(b"0\r\n\r\n")?;
+    Ok(body)
+}
+
+/// No chunk, and a trailer of one field of 8,180 bytes.
+fn long_trailer(alloc: Global) -> Result<Vec<u8>, AllocError> {
+    let value = vec![in alloc; b'x'; 8178]?;
+    let mut body = Vec::from_slice(alloc, b"0\r\nX:")?;
+    body.extend_from_slice(&value)?;
+    body.extend_from_slice(b"\n\n")?;
     Ok(body)
 }

@@ -8,8 +8,7 @@
 use crate::numbered::{hashes, set_of_one_hash};
 use crate::{Times, drawn_names, grown, names, resident, tell_clock};
 use anyhow::Result;
-use lb_desk_model::TableSettings;
-use lb_types::{Moment, ServerId, ServerSet};
+use lb_types::{Moment, ServerId, ServerSet, TableSettings};
 use pin_set::PinId;
 use pin_table::Table;
 use std::alloc::{AllocError, Global};

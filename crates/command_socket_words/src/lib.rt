@@ -3,7 +3,7 @@
 //! Promised of `read_commands`: a line gives exactly the commands and faults that `specs/Commands.antt` says, in order,
 //! so long as memory is there. A command is read exactly where its words are those of the table in
 //! `specs/Meanings.antt`, and of a command's faults the first from the left is told (`laws`). Start at `read_commands`. Private to
-//! `command_socket`, which re-exports it, and to the tests in `command_socket_rows`.
+//! `command_socket`, which re-exports it.
 #![tactic(auto)]
 
 mod command;

@@ -127,6 +127,7 @@ impl Arcs {
         ensures kept { AreKept network.now (used_of (size network.now) counts.now) self.new }
         ensures found { AreLeast network.now (used_of (size network.now) counts.now) (size network.now) source self.new.least }
         ensures looks { self.new.looks ≤ self.old.looks + size network.now * options network.now }
+        ensures looks_stay { self.old.looks ≤ self.new.looks }
     {
         let width = network.options();
         if self.are_fresh(width, source) {
@@ -225,6 +226,7 @@ impl Arcs {
         ensures others { OthersAreSame (options network.now) source self.old.least self.new.least }
         ensures fresh { self.new.fresh ≡ self.old.fresh }
         ensures looks { self.new.looks ≤ self.old.looks + size network.now * options network.now }
+        ensures looks_stay { self.old.looks ≤ self.new.looks }
     {
         let size = network.size();
         let mut from = 0;
@@ -265,6 +267,7 @@ impl Arcs {
         ensures others { OthersAreSame (options network.now) source self.old.least self.new.least }
         ensures fresh { self.new.fresh ≡ self.old.fresh }
         ensures looks { self.new.looks ≤ self.old.looks + many * options network.now }
+        ensures looks_stay { self.old.looks ≤ self.new.looks }
     {
         let size = network.size();
         for step in 0..many {
@@ -292,6 +295,7 @@ impl Arcs {
         ensures known { KnownAreSame (options network.now) source self.old.fresh self.old.least self.new.least }
         ensures fresh { self.new.fresh ≡ self.old.fresh }
         ensures looks { self.new.looks ≤ self.old.looks + options network.now }
+        ensures looks_stay { self.old.looks ≤ self.new.looks }
         ensures found { (used : ℕ → ℕ → ℕ) → 0 < used source group → AreFound network.now used group source self.old.least self.old.fresh
             → AreFound network.now used (group + 1) source self.new.least self.old.fresh }
     {
@@ -317,6 +321,7 @@ impl Arcs {
             → least_of (options network.now) self.new.least source target ≡ least_of (options network.now) self.old.least source target }
         ensures fresh { self.new.fresh ≡ self.old.fresh }
         ensures looks { self.new.looks ≤ self.old.looks + 1 }
+        ensures looks_stay { self.old.looks ≤ self.new.looks }
         ensures found { is_fresh (options network.now) self.old.fresh source target ≡ false → (used : ℕ → ℕ → ℕ) → 0 < used source group
             → IsLeast network.now used group source target (least_of (options network.now) self.old.least source target)
             → IsLeast network.now used (group + 1) source target (least_of (options network.now) self.new.least source target) }

@@ -30,6 +30,7 @@ pub(crate) fn forget_move(
     ensures forgotten { (old : ℕ → ℕ → ℕ) → IsMoved (size network.now) old (used_of (size network.now) counts.now) source target via pins
         → AreForgotten network.now old (used_of (size network.now) counts.now) arcs.old arcs.new }
     ensures looks { arcs.new.looks ≤ arcs.old.looks + options network.now }
+    ensures looks_stay { arcs.old.looks ≤ arcs.new.looks }
 {
     forget_left(network, counts, arcs, source, via);
     forget_come(network, counts, arcs, target, via, pins);
@@ -69,6 +70,7 @@ fn forget_come(
     requires few { arcs.old.looks + options network.now < 2 ^ 63 }
     ensures fewer { AreFewer network.now arcs.old arcs.new }
     ensures looks { arcs.new.looks ≤ arcs.old.looks + options network.now }
+    ensures looks_stay { arcs.old.looks ≤ arcs.new.looks }
     ensures no_less { used_of (size network.now) counts.now option group ≤ pins → (target : ℕ) → target < options network.now
         → may network.now group target ≡ true → is_fresh (options network.now) arcs.new.fresh option target ≡ true
         → IsNoLess network.now group option target (least_of (options network.now) arcs.old.least option target) }

@@ -59,6 +59,7 @@ pub(crate) fn push(
         → IsCheapest network.now (used_of (size network.now) counts.new) price }
     ensures forgotten { AreForgotten network.now (used_of (size network.now) counts.old) (used_of (size network.now) counts.new) arcs.old arcs.new }
     ensures looks { arcs.new.looks ≤ arcs.old.looks + rank labels.now option * options network.now }
+    ensures looks_stay { arcs.old.looks ≤ arcs.new.looks }
 {
     if option == start {
         return wanted;

@@ -30,6 +30,7 @@ fn relieve(
     ensures fits { (o : ℕ) → o < options network.now → at loads.old o ≤ capacity network.now o
         → at loads.new o ≤ capacity network.now o }
     ensures looks { arcs.new.looks ≤ arcs.old.looks + most_looks network.now }
+    ensures looks_stay { arcs.old.looks ≤ arcs.new.looks }
 {
     let found = search(network, counts, prices, loads, arcs, labels, start);
     let reach = labels[found].dist;
@@ -58,10 +59,12 @@ fn ease(
     ensures laid { IsLaid network.now counts.new prices.new loads.new arcs.new labels.new }
     ensures state { IsState network.now (used_of (size network.now) counts.new) (at prices.new) (at loads.new) }
     ensures pushes { result + excess network.now (at loads.new) ≤ excess network.now (at loads.old) }
+    ensures none { result ≡ 0 → counts.new ≡ counts.old }
     ensures fits { (o : ℕ) → o < options network.now → at loads.old o ≤ capacity network.now o
         → at loads.new o ≤ capacity network.now o }
     ensures here { at loads.new start ≤ capacity network.now start }
     ensures looks { arcs.new.looks ≤ arcs.old.looks + result * most_looks network.now }
+    ensures looks_stay { arcs.old.looks ≤ arcs.new.looks }
 {
     let mut pushes = 0;
     while network.capacity(start) < loads[start] {
@@ -90,7 +93,9 @@ pub fn repair(
     ensures state { IsState network.now (used_of (size network.now) counts.new) (at prices.new) (at loads.new) }
     ensures within { (o : ℕ) → o < options network.now → at loads.new o ≤ capacity network.now o }
     ensures pushes { result ≤ excess network.now (at loads.old) }
+    ensures none { result ≡ 0 → counts.new ≡ counts.old }
     ensures looks { arcs.new.looks ≤ arcs.old.looks + result * most_looks network.now }
+    ensures looks_stay { arcs.old.looks ≤ arcs.new.looks }
 {
     let mut pushes = 0;
     for start in 0..network.options() {

@@ -178,6 +178,7 @@ pub(crate) fn search(
     ensures found { (settled : ℕ) × IsFound network.now (used_of (size network.now) counts.now) (at prices.now) (at loads.now) labels.new start result settled }
     ensures laid { IsLaid network.now counts.now prices.now loads.now arcs.new labels.new }
     ensures looks { arcs.new.looks ≤ arcs.old.looks + search_looks network.now }
+    ensures looks_stay { arcs.old.looks ≤ arcs.new.looks }
 {
     begin(labels, start);
     let mut settled = 0;

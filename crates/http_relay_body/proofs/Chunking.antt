@@ -1,8 +1,7 @@
 -- How much of a chunked body a chunk takes.
-use Rattle.std.proofs.Common.{◌≡◌, inl, inr, ℕ, ◌<◌, ◌≤◌, true, false, List, [], ◌++◌, length, length-append, ap, ◌∙◌, arith}
+use Rattle.std.proofs.Common.{inl, inr, ℕ, ◌<◌, ◌≤◌, false, List, ◌++◌, length, length-append, ap, ◌∙◌, arith}
 use Rattle.httparse.specs.Ascii.{crlf_bytes}
 use Rattle.httparse.specs.Grammar.{print_chunk_line}
-use Rattle.http_relay_body.specs.Chunks.{print_chunk}
 use Rattle.http_relay_body.specs.Parts.{IsChunkText}
 use Rattle.http_relay_body.specs.Rooms.{Stand, takes_left, Carried}
 use Rattle.http_relay_body.proofs.Sights.{three_size}

@@ -6,7 +6,7 @@ use Rattle.http_relay_forward.specs.declared.framing.BodyKind.{BodyKind}
 use Rattle.http_relay_body.specs.declared.fault.BodyFault.{BodyFault}
 use Rattle.http_relay_body.specs.declared.fault.BodyFault.TheVariants.{Truncated, Client, Server, BadChunk}
 use Rattle.http_relay_body.specs.Moves.{Begins, Answers, Moved}
-use Rattle.http_relay_body.specs.Bodies.{IsBody, BeginsWithBody, JudgesInput}
+use Rattle.http_relay_body.specs.Bodies.{IsBody, BeginsWithBody, MayBecomeBody, JudgesInput}
 
 begins_so : (kind : BodyKind) (input : List ℕ) → BeginsWithBody kind input → Begins {A = Unit {0}} (λ _ text. IsBody kind text) input
 begins_so kind input (body, rest, is, parted) = (tt, body, rest, is, parted)
@@ -19,7 +19,7 @@ judges_text kind text left rest reading (Err BadChunk) known says = λ begins. s
 judges_text kind text left rest reading (Err Truncated) known says =
     let none : rest ≡ [] = subst IsAtEnd known says.0.1 in
     let all : text ++ (left ++ rest) ≡ text = ap (λ xs. text ++ (left ++ xs)) none ∙ ap (λ xs. text ++ (xs ++ [])) says.0.0 ∙ append-nil text in
-    λ begins. says.1 (begins_so kind text (subst (BeginsWithBody kind) all begins))
+    ((λ begins. says.1 (begins_so kind text (subst (BeginsWithBody kind) all begins))), subst (MayBecomeBody kind) (sym all) (says.2.1, says.2.2))
 judges_text kind text left rest reading (Err (Client fault)) known says = tt
 judges_text kind text left rest reading (Err (Server fault)) known says = tt
 

@@ -1,4 +1,6 @@
 pub mod Chunking
+pub mod Cuts
+pub mod Finishes
 pub mod Inputs
 pub mod Lines
 pub mod Moves

@@ -1,12 +1,10 @@
 -- Why bytes are, or never become, a size line or a trailer.
-use Rattle.std.proofs.Common.{◌≡◌, ◌≢◌, inl, inr, ℕ, ◌+◌, ◌<◌, ◌≤◌, List, [], ◌∷◌, ◌++◌, length, length-append, take, drop, get_or, refl, ap, sym, ◌∙◌, subst, arith, append_assoc, append-nil}
-use Rattle.std.proofs.lemmas.Bool.{cases_lt}
-use Rattle.std.proofs.lemmas.List.{take-append-le, take-append-drop, length-take, length-map}
+use Rattle.std.proofs.Common.{◌≡◌, ℕ, ◌+◌, ◌<◌, ◌≤◌, List, [], ◌∷◌, ◌++◌, length, length-append, take, drop, get_or, refl, ap, sym, ◌∙◌, arith}
+use Rattle.std.proofs.lemmas.List.{take-append-le, take-append-drop}
 use Rattle.std.proofs.Math.Seq.{take-append_seam, drop-append_seam}
 use Rattle.std.specs.List.{flat_map}
-use Rattle.httparse.specs.Grammar.{ChunkLine, IsChunkLine, print_chunk_line, HasNoChunkLine, NeverHasChunkLine, Field, LineEnd, crlf, lf, print_end, print_extension, print_field, print_section, HasNoSection}
-use Rattle.httparse.specs.Spans.{IsChunkLineAt, SectionOverflows, IsSectionAt, header_bytes, name_and_value}
-use Rattle.httparse.specs.declared.spans.HeaderSpan.{HeaderSpan}
+use Rattle.httparse.specs.Grammar.{ChunkLine, IsChunkLine, print_chunk_line, HasNoChunkLine, NeverHasChunkLine, LineEnd, crlf, lf, print_end, print_extension, print_field, print_section, HasNoSection}
+use Rattle.httparse.specs.Spans.{SectionOverflows}
 use Rattle.http_relay_body.specs.Moves.{Begins, NeverBegins}
 use Rattle.http_relay_body.specs.Parts.{IsSizeText, IsTrailerText}
 

@@ -1,5 +1,5 @@
 -- How a chunked body is carried through a room, one part after another.
-use Rattle.std.proofs.Common.{◌≡◌, ◌⊎◌, inl, inr, ℕ, ◌+◌, ◌-◌, ◌<◌, ◌≤◌, List, [], ◌++◌, length, length-append, take, drop, take-append-drop, Option, Result, Ok, Err, IsErrAnd, OnOk, OnErr, refl, ap, sym, ◌∙◌, subst, arith, append_assoc, append-nil}
+use Rattle.std.proofs.Common.{◌≡◌, ◌⊎◌, inl, inr, ℕ, ◌+◌, ◌<◌, ◌≤◌, List, [], ◌++◌, length, length-append, take, drop, take-append-drop, Option, Result, Ok, Err, IsErrAnd, OnOk, OnErr, refl, ap, sym, ◌∙◌, subst, arith, append_assoc, append-nil}
 use Rattle.std.proofs.lemmas.List.{take-append-le, drop-append-le, drop-drop}
 use Rattle.std.proofs.Math.Seq.{take-add}
 use Rattle.std.specs.Io.KnownBytes.{append_known}
@@ -7,8 +7,8 @@ use Rattle.http_relay_wire.specs.Wires.{Reading, AppendsBeginning}
 use Rattle.http_relay_wire.proofs.KnownBytes.{append_twice}
 use Rattle.http_relay_body.specs.declared.fault.BodyFault.{BodyFault}
 use Rattle.http_relay_body.specs.declared.fault.BodyFault.TheVariants.{Truncated, Client, Server, BadChunk}
-use Rattle.http_relay_body.specs.Moves.{Taken, Begins, NeverBegins, Answers, Moved, IsServerFault}
-use Rattle.http_relay_body.proofs.Moves.{take_nothing, take_twice, append_nothing, begins_with_nothing, begins_later, answers_later, told_err, part_sent, part_unsent}
+use Rattle.http_relay_body.specs.Moves.{Taken, Begins, NeverBegins, MayBecome, Answers, Moved, IsServerFault}
+use Rattle.http_relay_body.proofs.Moves.{Finishes, take_nothing, take_twice, append_nothing, begins_with_nothing, begins_later, answers_later, told_err, part_sent, part_unsent}
 use Rattle.http_relay_body.specs.Rooms.{RoomView, Stand, stand, takes_left, Carried, Stopped, Passed, NoneCame, Took, Fetched}
 
 -- nothing was carried
@@ -62,8 +62,8 @@ carry_judged hand reading written room next count is = record {
 
 -- a fault behind what was carried speaks of the whole
 pub stopped_later : {A B : Type 0} (P : A → List ℕ → Type 0) (Q : B → List ℕ → Type 0) (old mid new : Stand) (done : List ℕ) (fault : BodyFault)
-    → Carried old mid done → ((rest : List ℕ) → Begins P (done ++ rest) → Begins Q rest) → Stopped Q mid new fault → Stopped P old new fault
-stopped_later P Q old mid new done fault x skip y =
+    → Carried old mid done → ((rest : List ℕ) → Begins P (done ++ rest) → Begins Q rest) → Finishes P Q done → Stopped Q mid new fault → Stopped P old new fault
+stopped_later P Q old mid new done fault x skip ends y =
     let came : old.room.ahead ++ (x.text ++ y.text) ≡ done ++ (mid.room.ahead ++ y.text) = came_twice old.room.ahead x.text y.text done mid.room.ahead x.came in
     let behind = mid.room.ahead ++ y.text in
     let all : x.out ++ (mid.room.judged ++ behind) ≡ old.room.judged ++ (old.room.ahead ++ (x.text ++ y.text)) =
@@ -71,7 +71,7 @@ stopped_later P Q old mid new done fault x skip y =
     record {
       text = x.text ++ y.text;
       taken = take_twice old.hand mid.hand new.hand old.reading.unread mid.reading.unread new.reading.unread x.text y.text x.taken y.taken;
-      answers = subst (λ text. Answers P text new.hand new.reading (Err fault)) (sym came) (answers_later P Q done behind new.hand new.reading fault skip y.answers);
+      answers = subst (λ text. Answers P text new.hand new.reading (Err fault)) (sym came) (answers_later P Q done behind new.hand new.reading fault skip ends y.answers);
       beginning = subst (λ text. AppendsBeginning old.written new.written text) all
           (begins_later old.written mid.written new.written x.out (mid.room.judged ++ behind) x.sent y.beginning);
     }
@@ -86,11 +86,11 @@ stopped_bad P at never = record {
 }
 
 none_answers : {A : Type 0} (P : A → List ℕ → Type 0) (text left : List ℕ) (reading : Reading) (fault : BodyFault)
-    → ¬ Begins P text → NoneCame left reading fault → Answers P text left reading (Err fault)
-none_answers P text left reading Truncated none why = (why, none)
-none_answers P text left reading (Client fault) none why = (why, none)
-none_answers P text left reading (Server fault) none why = tt
-none_answers P text left reading BadChunk none why = absurd why
+    → ¬ Begins P text → MayBecome P text → NoneCame left reading fault → Answers P text left reading (Err fault)
+none_answers P text left reading Truncated none may why = (why, none, may)
+none_answers P text left reading (Client fault) none may why = (why, none, may)
+none_answers P text left reading (Server fault) none may why = tt
+none_answers P text left reading BadChunk none may why = absurd why
 
 -- a beginning of a beginning
 begins_within : (before after : Option (List ℕ)) (text more : List ℕ) → AppendsBeginning before after text → AppendsBeginning before after (text ++ more)
@@ -98,11 +98,12 @@ begins_within before after text more (front, rest, parted, grown) = (front, rest
 
 -- the next bytes of a part didn't come
 pub stopped_short : {A : Type 0} (P : A → List ℕ → Type 0) (most : ℕ) (old new : Stand) (fault : BodyFault)
-    → ¬ Begins P old.room.ahead → Fetched most old new (Err fault) → Stopped P old new fault
-stopped_short P most old new fault none (taken, beginning, why) = record {
+    → ¬ Begins P old.room.ahead → MayBecome P old.room.ahead → Fetched most old new (Err fault) → Stopped P old new fault
+stopped_short P most old new fault none may (taken, beginning, why) = record {
   text = [];
   taken = taken;
-  answers = none_answers P (old.room.ahead ++ []) new.hand new.reading fault (subst (λ text. ¬ Begins P text) (sym (append-nil old.room.ahead)) none) why;
+  answers = none_answers P (old.room.ahead ++ []) new.hand new.reading fault (subst (λ text. ¬ Begins P text) (sym (append-nil old.room.ahead)) none)
+      (subst (λ text. MayBecome P text) (sym (append-nil old.room.ahead)) may) why;
   beginning = begins_within old.written new.written old.room.judged (old.room.ahead ++ []) beginning;
 }
 
@@ -113,9 +114,9 @@ handed P old new answer fault same stopped = subst (λ told. Passed P old new to
 
 -- a fault behind what was carried, handed on
 pub handed_later : {A B : Type 0} (P : A → List ℕ → Type 0) (Q : B → List ℕ → Type 0) (old mid new : Stand) (done : List ℕ) (answer : Result A BodyFault) (fault : BodyFault)
-    → IsErrAnd answer (λ told. told ≡ fault) → Carried old mid done → ((rest : List ℕ) → Begins P (done ++ rest) → Begins Q rest)
+    → IsErrAnd answer (λ told. told ≡ fault) → Carried old mid done → ((rest : List ℕ) → Begins P (done ++ rest) → Begins Q rest) → Finishes P Q done
     → Stopped Q mid new fault → Passed P old new answer
-handed_later P Q old mid new done answer fault same x skip y = handed P old new answer fault same (stopped_later P Q old mid new done fault x skip y)
+handed_later P Q old mid new done answer fault same x skip ends y = handed P old new answer fault same (stopped_later P Q old mid new done fault x skip ends y)
 
 -- what was carried makes a part with what follows it
 pub passed_later : {A B : Type 0} (P : A → List ℕ → Type 0) (Q : B → List ℕ → Type 0) (old mid new : Stand) (done : List ℕ) (value : A) (later : B)

@@ -1,13 +1,13 @@
 -- What is seen of a part, and how many bytes must still come.
-use Rattle.std.proofs.Common.{◌≡◌, ◌≢◌, ◌⊎◌, inl, inr, ℕ, zero, suc, ◌+◌, ◌*◌, ◌-◌, ◌<◌, ◌≤◌, ◌==◌, ◌||◌, Bool, true, false, List, [], ◌∷◌, ◌++◌, length, length-append, length-drop, length-take, take, drop, get_or, refl, ap, sym, ◌∙◌, subst, arith, append_assoc, append-nil, take-append-drop, mul-le-mul_left, le_refl, le_trans, zero-add}
-use Rattle.std.proofs.lemmas.Bool.{cases_lt, eq-eqb}
-use Rattle.std.specs.List.{flat_map, list_any}
-use Rattle.std.proofs.lemmas.List.{length-map, take-take, take_all, length-take-le, drop-append-le}
+use Rattle.std.proofs.Common.{◌≡◌, ◌≢◌, ◌⊎◌, inl, inr, ℕ, zero, suc, ◌+◌, ◌*◌, ◌-◌, ◌<◌, ◌≤◌, true, List, [], ◌∷◌, ◌++◌, length, length-append, length-drop, length-take, take, drop, get_or, refl, ap, sym, ◌∙◌, subst, arith, append_assoc, append-nil, take-append-drop, le_refl, le_trans, zero-add}
+use Rattle.std.proofs.lemmas.Bool.{cases_lt}
+use Rattle.std.proofs.lemmas.List.{length-map, take-take, length-take-le}
 use Rattle.std.proofs.lemmas.List.Elements.{All-head, All-tail, All-push}
 use Rattle.std.proofs.Math.Seq.{take-append_seam, get_or-append_seam}
 use Rattle.std.specs.Char.{is_ascii_hexdigit, digit_value}
 use Rattle.std.specs.Str.Parse.{digits_value, digits_value_after}
-use Rattle.httparse.specs.Grammar.{AllPass, ChunkLine, IsChunkLine, print_chunk_line, chunk_size, HasNoChunkLine, Field, LineEnd, crlf, print_end, print_extension, print_field, print_section, HasNoSection}
+use Rattle.httparse.specs.Ascii.{crlf_bytes}
+use Rattle.httparse.specs.Grammar.{AllPass, ChunkLine, IsChunkLine, print_chunk_line, chunk_size, HasNoChunkLine, Field, LineEnd, crlf, print_end, print_extension, print_section}
 use Rattle.httparse.specs.Pieces.{Stops}
 use Rattle.httparse.specs.Spans.{IsChunkLineAt, IsSectionAt, header_bytes, name_and_value}
 use Rattle.httparse.specs.declared.spans.HeaderSpan.{HeaderSpan}
@@ -15,10 +15,11 @@ use Rattle.httparse.proofs.GrammarLemmas.{section_unique, ReadsSection-append}
 use Rattle.httparse.proofs.ChunkLemmas.{chunk_pieces, chunk_line_unique, ReadsChunkLine-append}
 use Rattle.http_relay_body.specs.declared.chunks.part.Part.{Part}
 use Rattle.http_relay_body.specs.declared.chunks.part.Part.TheVariants.{SizeLine, DataEnd, Trailer}
+use Rattle.http_relay_body.specs.declared.chunks.part.Sight.TheVariants.{Short}
 use Rattle.http_relay_body.specs.Moves.{Begins, NeverBegins}
 use Rattle.http_relay_body.specs.Parts.{IsSizeText, IsTrailerText, IsPartText, least_from, least_behind, least_behind_size}
-use Rattle.http_relay_body.specs.Rooms.{MustFollow}
-use Rattle.http_relay_body.proofs.Lines.{split_same, front_within, none_size, nothing_size, none_trailer, nothing_section, feed_of}
+use Rattle.http_relay_body.specs.Rooms.{MustFollow, Sees}
+use Rattle.http_relay_body.proofs.Lines.{split_same, none_size, nothing_size, none_trailer, nothing_section}
 use Rattle.http_relay_body.proofs.Parts.{short_end}
 
 -- ---- before a part
@@ -82,12 +83,6 @@ leaves part text seen least len value within none must few fits is =
 -- nothing of a part is in the first bytes of a text that has grown
 pub seen_front : (old new more : List ℕ) → new ≡ old ++ more → take (length old) new ≡ old
 seen_front old new more is = ap (take (length old)) is ∙ take-append_seam old more
-
--- a front stands at the front of a text no longer than the room for it, or never does
-pub full_part : {A : Type 0} (P : A → List ℕ → Type 0) (text : List ℕ) (room : ℕ) → ((value : A) (front : List ℕ) → P value front → length front ≤ room)
-    → ¬ Begins P text → room ≤ length text → NeverBegins P text
-full_part P text room short none full more (value, front, rest, part, parted) =
-    none (value, front, drop (length front) text, part, front_within text more front rest parted (omega (arith, short value front part, full)))
 
 -- ---- size lines
 
@@ -157,10 +152,7 @@ digit_pushed text i size digit byte grown pass told hex value = (
   ap (λ n. n * 16 + digit) told ∙ ap (λ d. digits_value 16 (take i text) * 16 + d) value ∙ sym (value_push (take i text) byte) ∙ ap (digits_value 16) (sym grown),
 )
 
-pub size_short : (value : ℕ) (front : List ℕ) → IsPartText SizeLine value front → length front ≤ 256
-size_short value front (line, ok, tells, is) = omega (arith, ap length is, ok.short)
-
-behind_grows : (a b : ℕ) → a ≤ b → least_behind_size a ≤ least_behind_size b
+pub behind_grows : (a b : ℕ) → a ≤ b → least_behind_size a ≤ least_behind_size b
 behind_grows zero zero le = omega arith
 behind_grows zero (suc b) le = omega arith
 behind_grows (suc a) zero le = omega (arith, le)
@@ -180,7 +172,7 @@ last_of front byte =
     ap (λ i. get_or (front ++ byte ∷ []) i 0) at ∙ get_or-append_seam front byte [] 0
 
 -- how much of the line itself must come: one byte, and two where no carriage return stands last
-line_rest : (text rest : List ℕ) (line : ChunkLine) → IsChunkLine line → HasNoChunkLine text → text ++ rest ≡ print_chunk_line line
+pub line_rest : (text rest : List ℕ) (line : ChunkLine) → IsChunkLine line → HasNoChunkLine text → text ++ rest ≡ print_chunk_line line
     → (end : ℕ) → (end ≤ 1) ⊎ ((end ≤ 2) × (get_or text (length text - 1) 0 ≢ 13)) → end ≤ length rest
 line_rest text [] line form none is end few = absurd (none line [] (form, sym (append-nil text) ∙ is ∙ sym (append-nil (print_chunk_line line))))
 line_rest text (x ∷ []) line form none is end (inl one) = omega (arith, one)
@@ -192,17 +184,6 @@ line_rest text (x ∷ []) line form none is end (inr two) =
     absurd (two.1 (ap (λ xs. get_or xs (length xs - 1) 0) text_is ∙ last_of front 13))
 line_rest text (x ∷ y ∷ rest) line form none is end (inl one) = omega (arith, one)
 line_rest text (x ∷ y ∷ rest) line form none is end (inr two) = omega (arith, two.0)
-
-pub empty_must : (text : List ℕ) → length text ≡ 0 → MustFollow SizeLine text 4
-empty_must [] none = from_part SizeLine
-empty_must (x ∷ text) none = absurd (omega (arith, none))
-
--- how much must come behind the beginning of a size line
-pub size_must : (text : List ℕ) (end size : ℕ) → HasNoChunkLine text → (end ≤ 1) ⊎ ((end ≤ 2) × (get_or text (length text - 1) 0 ≢ 13))
-    → ((told : ℕ) (rest : List ℕ) → IsSizeText told (text ++ rest) → size ≤ told) → MustFollow SizeLine text (end + least_behind_size size)
-size_must text end size none few least told rest (line, ok, tells, is) =
-    let behind = behind_grows size told (least told rest (line, ok, tells, is)) in
-    omega (arith, behind, line_rest text rest line ok.form none is end few)
 
 -- ---- line ends
 
@@ -223,61 +204,23 @@ other_second_byte (x ∷ []) some other more begins = absurd (omega (arith, some
 other_second_byte (x ∷ y ∷ text) some other more (value, front, rest, is, parted) =
     other (ap (λ xs. get_or xs 1 0) (parted ∙ ap (λ xs. xs ++ rest) is))
 
--- one byte of a line end came
-pub end_must : (text : List ℕ) → length text ≡ 1 → MustFollow DataEnd text 5
+-- what must follow one byte of a line end
+end_must : (text : List ℕ) → length text ≡ 1 → MustFollow DataEnd text 5
 end_must text one value rest is = omega (arith, one, ap length is, length-append text rest)
 
+-- nothing of a line end came
+pub end_unbegun : (text : List ℕ) → length text ≡ 0 → Sees DataEnd text (Short 6)
+end_unbegun [] none = (short_end [] (omega arith), omega arith, omega arith, from_part DataEnd, (0, crlf_bytes, refl))
+end_unbegun (x ∷ text) none = absurd (omega (arith, none))
+
+-- one byte of a line end came
+pub end_begun : (text : List ℕ) → length text ≡ 1 → get_or text 0 0 ≡ 13 → Sees DataEnd text (Short 5)
+end_begun [] one first = absurd (omega (arith, one))
+end_begun (x ∷ []) one first =
+    (short_end (x ∷ []) (omega arith), omega arith, omega arith, end_must (x ∷ []) refl, (0, 10 ∷ [], ap (λ b. b ∷ 10 ∷ []) first))
+end_begun (x ∷ y ∷ text) one first = absurd (omega (arith, one))
+
 -- ---- trailers
-
-or_true : (test : Bool) → (test || true) ≡ true
-or_true true = refl
-or_true false = refl
-
-or_parts : (a b : Bool) → (a || b) ≡ false → (a ≡ false) × (b ≡ false)
-or_parts true b e = absurd (cc)
-or_parts false b e = (refl, e)
-
--- a byte stands in a text where it stands behind any front
-no_byte : (front rest : List ℕ) (byte : ℕ) → list_any (λ y. y == byte) (front ++ byte ∷ rest) ≡ true
-no_byte [] rest byte = rw (eq-eqb byte byte refl) refl
-no_byte (x ∷ front) rest byte = rw (no_byte front rest byte) (or_true (x == byte))
-
--- a trailer ends with a line feed
-trailer_feed : {A : Type 0} (value : A) (text : List ℕ) → IsTrailerText value text → (front : List ℕ) × (text ≡ front ++ 10 ∷ [])
-trailer_feed value text (fields, end, ok, is) =
-    let (front, feed) = feed_of end in
-    (flat_map print_field fields ++ front, is ∙ ap (λ xs. flat_map print_field fields ++ xs) feed ∙ sym (append_assoc (flat_map print_field fields) front (10 ∷ [])))
-
--- without a line feed behind the first bytes, in which no trailer stands, none stands there
-pub no_feed : (text : List ℕ) (seen : ℕ) → seen ≤ length text → ¬ Begins (IsPartText Trailer) (take seen text)
-    → list_any (λ y. y == 10) (drop seen text) ≡ false → ¬ Begins (IsPartText Trailer) text
-no_feed text seen within none absent (value, front, rest, is, parted) =
-    let (line, feed) = trailer_feed value front is in
-    elim (cases_lt seen (length front)) [
-      | inl longer ↦
-          (let sizes = ap length feed ∙ length-append line (10 ∷ []) in
-          let split : text ≡ line ++ 10 ∷ rest = parted ∙ ap (λ xs. xs ++ rest) feed ∙ append_assoc line (10 ∷ []) rest in
-          let behind : drop seen text ≡ drop seen line ++ 10 ∷ rest = ap (drop seen) split ∙ drop-append-le seen line (10 ∷ rest) (omega (arith, longer, sizes)) in
-          let there = ap (list_any (λ y. y == 10)) behind ∙ no_byte (drop seen line) rest 10 in
-          cc)
-      | inr shorter ↦
-          (let size = length-take-le seen text within in
-          none (
-            value,
-            front,
-            drop (length front) (take seen text),
-            is,
-            front_within (take seen text) (drop seen text) front rest (take-append-drop seen text ∙ parted) (omega (arith, shorter, size)),
-          ))
-    ]
-
-pub trailer_short : (value : ℕ) (front : List ℕ) → IsPartText Trailer value front → length front ≤ 8192
-trailer_short value front (fields, end, ok, is) = omega (arith, ap length is, ok.short)
-
--- one byte at least must come
-pub trailer_must : (text : List ℕ) → ¬ Begins (IsPartText Trailer) text → MustFollow Trailer text 1
-trailer_must text none value [] is = absurd (none (value, text, [], subst (IsTrailerText value) (append-nil text) is, sym (append-nil text)))
-trailer_must text none value (x ∷ rest) is = omega arith
 
 -- the trailer that was found
 pub found_trailer : (text : List ℕ) (headers : List HeaderSpan) (len count : ℕ) (fields : List Field) (end : LineEnd)
@@ -301,13 +244,3 @@ long_trailer text headers len count fields end at long more (value, front, rest,
     (ReadsSection-append text fields end (drop len text) more at.reads) (ok.form, parted ∙ ap (λ xs. xs ++ rest) is) in
     let sections : print_section fields end ≡ print_section others last = ap (λ fs. print_section fs end) same.0 ∙ ap (λ e. print_section others e) same.1 in
     absurd (omega (arith, long, at.len_is, ok.short, ap length sections))
-
--- the rest of a text, as a range tells it
-pub rest_all : (n : ℕ) (xs : List ℕ) → take (length xs - n) (drop n xs) ≡ drop n xs
-rest_all n xs = take_all (length xs - n) (drop n xs) (omega (arith, length-drop n xs))
-
-pub feed_not_pushed : (xs : List ℕ) (byte : ℕ) → list_any (λ y. y == 10) xs ≡ false → (byte == 10) ≡ false → list_any (λ y. y == 10) (xs ++ byte ∷ []) ≡ false
-feed_not_pushed [] byte none other = rw other refl
-feed_not_pushed (x ∷ xs) byte none other =
-    let parts = or_parts (x == 10) (list_any (λ y. y == 10) xs) none in
-    rw (parts.0, feed_not_pushed xs byte parts.1 other) refl

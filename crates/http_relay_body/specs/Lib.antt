@@ -4,6 +4,7 @@ pub mod Copies
 pub mod Moves
 pub mod Parts
 pub mod Rooms
+pub mod Trailers
 pub use Rattle.http_relay_forward.specs.declared.framing.BodyKind
 pub use Rattle.http_relay_wire.specs.Faults
 pub use Rattle.http_relay_wire.specs.Wires

@@ -1,5 +1,5 @@
 -- What moving bytes from the client to the server does, and what a fault says. Our own words.
-use Rattle.std.specs.Prelude.{◌≡◌, ◌<◌, ◌≤◌, ◌⊎◌, ℕ, true, List, [], ◌∷◌, ◌++◌, length, Option, Result, Ok, Err, OnOk, OnErr}
+use Rattle.std.specs.Prelude.{◌≡◌, ◌<◌, ◌≤◌, ◌⊎◌, ℕ, true, List, [], ◌++◌, length, Option, Result, Ok, Err, OnOk, OnErr}
 use Rattle.std.specs.Io.KnownBytes.{prepend_known, append_known, IsAtEnd}
 use Rattle.http_relay_wire.specs.Wires.{Reading, AppendsBeginning}
 use Rattle.http_relay_wire.specs.Faults.{after_read_fault, after_write_fault}
@@ -23,17 +23,22 @@ Begins {A} IsPart text = (value : A) × (front : List ℕ) × (rest : List ℕ) 
 abbrev pub NeverBegins : {A : Type 0} → (A → List ℕ → Type 0) → List ℕ → Type 0
 NeverBegins IsPart text = (more : List ℕ) → ¬ Begins IsPart (text ++ more)
 
+-- with some bytes behind it the text is such a part
+abbrev pub MayBecome : {A : Type 0} → (A → List ℕ → Type 0) → List ℕ → Type 0
+MayBecome {A} IsPart text = (value : A) × (more : List ℕ) × IsPart value (text ++ more)
+
 -- the client has ended: no byte is left at hand or to be read, and a read has told so
 abbrev pub HasEnded : List ℕ → Reading → Type 0
 HasEnded left reading = (left ≡ []) × IsAtEnd reading.unread × (reading.ended ≡ true)
 
 -- What an answer says of the text that was taken, of what is left at hand, and of the wire behind it. The client is at fault only
--- where all that was at hand was taken and no part stood there yet: behind a part nothing is waited for.
+-- where all that was at hand was taken, no part stood there yet, and one may still come: behind a part nothing is waited for, and
+-- neither is behind bytes that are a part's beginning no more.
 abbrev pub Answers : {A : Type 0} → (A → List ℕ → Type 0) → List ℕ → List ℕ → Reading → Result A BodyFault → Type 0
 Answers IsPart text left reading (Ok value) = IsPart value text
-Answers IsPart text left reading (Err Truncated) = HasEnded left reading × ¬ Begins IsPart text
+Answers IsPart text left reading (Err Truncated) = HasEnded left reading × ¬ Begins IsPart text × MayBecome IsPart text
 Answers IsPart text left reading (Err BadChunk) = NeverBegins IsPart text
-Answers IsPart text left reading (Err (Client fault)) = (left ≡ []) × ¬ Begins IsPart text
+Answers IsPart text left reading (Err (Client fault)) = (left ≡ []) × ¬ Begins IsPart text × MayBecome IsPart text
 Answers IsPart text left reading (Err (Server fault)) = Unit {0}
 
 -- a part was taken and written, or a beginning of what was taken

@@ -7,7 +7,7 @@ use Rattle.http_relay_body.specs.declared.fault.BodyFault.TheVariants.{Truncated
 use Rattle.http_relay_body.specs.declared.chunks.part.Part.{Part}
 use Rattle.http_relay_body.specs.declared.chunks.part.Sight.{Sight}
 use Rattle.http_relay_body.specs.declared.chunks.part.Sight.TheVariants.{Whole, Short, Bad}
-use Rattle.http_relay_body.specs.Moves.{Taken, HasEnded, Begins, NeverBegins, Answers}
+use Rattle.http_relay_body.specs.Moves.{Taken, HasEnded, Begins, NeverBegins, MayBecome, Answers}
 use Rattle.http_relay_body.specs.Parts.{IsPartText, least_behind}
 
 -- what a room holds: bytes that were judged and wait to go out, and those ahead of them, which were taken and not judged yet
@@ -93,5 +93,6 @@ MustFollow part text least = (value : ℕ) (rest : List ℕ) → IsPartText part
 -- what is seen of a part in this text
 abbrev pub Sees : Part → List ℕ → Sight → Type 0
 Sees part text (Whole len value) = (len ≤ length text) × IsPartText part value (take len text)
-Sees part text (Short least) = (¬ Begins (IsPartText part) text) × (length text < 8192) × (0 < least) × MustFollow part text least
+Sees part text (Short least) =
+    (¬ Begins (IsPartText part) text) × (length text < 8192) × (0 < least) × MustFollow part text least × MayBecome (IsPartText part) text
 Sees part text Bad = NeverBegins (IsPartText part) text

@@ -52,3 +52,37 @@ fn bodies_at_their_limits_and_beyond(rt: HostRuntime) -> Result<(), Fail> {
     }
     Ok(())
 }
+
+// A body ends inside a line that could end at the limit, or only beyond it: a size line with its CR LF, a field with its line feed and
+// that of the empty line, and a field that is one too many.
+const ENDS: [(&[u8], &[u8], usize, &[u8], BodyFault); 9] = [
+    (b"0;", b"x", 252, b"", BodyFault::Truncated),
+    (b"0;", b"x", 252, b"\r", BodyFault::Truncated),
+    (b"0;", b"x", 253, b"", BodyFault::BadChunk),
+    (b"0\r\nX:", b"x", 8188, b"", BodyFault::Truncated),
+    (b"0\r\nX:", b"x", 8189, b"", BodyFault::BadChunk),
+    (b"0\r\n", b"x", 8189, b"", BodyFault::Truncated),
+    (b"0\r\n", b"x", 8190, b"", BodyFault::BadChunk),
+    (b"0\r\n", b"X:\n", 100, b"\r", BodyFault::Truncated),
+    (b"0\r\n", b"X:\n", 100, b"Y", BodyFault::BadChunk),
+];
+
+#[test]
+fn bodies_that_end_near_their_limits(rt: HostRuntime) -> Result<(), Fail> {
+    for (front, middle, times, end, fault) in ENDS {
+        let body = joined(rt.alloc(), front, middle, times, end)?;
+        let input = joined(rt.alloc(), HEAD, &body, 1, b"")?;
+        for pieces in [[].as_slice(), &[1]] {
+            let script = Script {
+                pieces,
+                ..Script::SMOOTH
+            };
+            let mut client = ScriptedWire::new(rt.alloc(), &input, script);
+            let mut server = ScriptedWire::new(rt.alloc(), b"", Script::SMOOTH);
+            let relayed = relay(rt.alloc(), &mut client, &mut server, false);
+            let told = relayed == Err(RelayFault::Body(fault));
+            assert!(rt; told, "{front:?}, {times} times {middle:?}, {end:?}");
+        }
+    }
+    Ok(())
+}

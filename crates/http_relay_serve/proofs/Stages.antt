@@ -1,19 +1,30 @@
 -- The stages of a request at its backend.
 use Rattle.std.proofs.Common.{◌≡◌, ℕ, Bool, List, [], ◌∷◌, Result, Ok, subst, sym, ap, ◌∙◌}
 use Rattle.http_relay_forward.specs.Forwarded.{forwarded}
-use Rattle.http_relay_forward.specs.Framing.{expects_continue}
+use Rattle.http_relay_forward.specs.Framing.{expects_continue, framing}
 use Rattle.http_relay_forward.specs.declared.framing.BodyKind.{BodyKind}
+use Rattle.http_relay_wire.specs.Wires.{Reading}
+use Rattle.http_relay_body.specs.Bodies.{IsBody, IsBodyOf}
 use Rattle.http_relay_exchange.specs.Requests.{OutgoingView}
+use Rattle.http_relay_head.specs.Heads.{HeadRead}
 use Rattle.http_relay_head.specs.ReadHeadView.{ReadHeadView}
 use Rattle.http_relay_talk.specs.Talks.{UsesPort, UsesDialer}
 use Rattle.http_relay_talk.specs.declared.fault.VisitFault.{VisitFault}
 use Rattle.http_relay_talk.specs.declared.target.Target.{Target}
+use Rattle.std.specs.declared.net.ipv4_addr.Ipv4Addr.{Ipv4Addr}
 use Rattle.lb_acl.specs.HeadView.{HeadView}
 use Rattle.lb_desk_model.specs.declared.event.Request.{Request}
 use Rattle.lb_desk_ports.specs.Calls.{Grows}
 use Rattle.http_relay_serve.specs.Routes.{Routes}
 use Rattle.http_relay_serve.specs.Serves.{PortSeen, ClockSeen, Scene, Places, AsksAtMoment, Visits, outgoing}
 use Rattle.http_relay_serve.specs.declared.fault.AskFault.{AskFault}
+
+-- a body of the kind that was told with a head is that head's
+pub body_of_head : (source : Ipv4Addr) (old new : Reading) (read : ReadHeadView) → HeadRead source old new (Ok read)
+    → (text : List ℕ) → IsBody read.kind text → IsBodyOf read.head text
+body_of_head source old new read taken text body =
+    let (head, is, parts) = taken.answers in
+    (read.kind, ap framing parts ∙ is.framed, body)
 
 -- a request that was made of the head for the moment that was told
 pub asks_at_moment : (routes : Routes) (backend : ℕ) (passed head : HeadView) (old new : PortSeen) (clock read : ClockSeen) (request : Request) (moment : ℕ)

@@ -8,6 +8,7 @@ use Rattle.http_relay_forward.specs.Framing.{expects_continue}
 use Rattle.http_relay_head.specs.Heads.{HeadRead, JudgesInput, after_head}
 use Rattle.http_relay_head.specs.ReadHeadView.{ReadHeadView}
 use Rattle.http_relay_head.specs.declared.fault.HeadFault.{HeadFault}
+use Rattle.http_relay_body.specs.Bodies.{IsBody, IsBodyOf}
 use Rattle.http_relay_dial.specs.Dials.{Dial, Talk}
 use Rattle.http_relay_exchange.specs.Requests.{OutgoingView}
 use Rattle.http_relay_talk.specs.Talks.{UsesPort, UsesDialer}
@@ -151,12 +152,14 @@ ServesAt server_of routes backend read old new before after (Err Memory) = OnlyR
 
 -- ---- the whole
 
--- a head was read, its backend is the one that the configuration says, only that one's port was used, and this was done there
+-- a head was read, its backend is the one that the configuration says, only that one's port was used, and this was done there; a body
+-- of the kind that is sent is this head's
 pub record ServesAtBackend {P S : Type 0} (seen : P → PortSeen) (server_of : S → ℕ) (routes : Routes) (source : Ipv4Addr) (ports used : List P)
     (before after : Scene) (answer : Result ℕ BackendFault) : Type 0 where
   pub read : ReadHeadView
   pub client : Talk
   pub takes_head : TakesHead source before.client client (Ok read)
+  pub bodies : (text : List ℕ) → IsBody read.kind text → IsBodyOf read.head text
   pub backend : ℕ
   pub routed : routes.backend read.head ≡ Some backend
   pub old : P

@@ -6,6 +6,8 @@
 #[cfg(test)]
 mod causes;
 #[cfg(test)]
+mod cuts;
+#[cfg(test)]
 mod drops;
 #[cfg(test)]
 mod requests;

@@ -2,8 +2,8 @@
 //! that loses nothing.
 //!
 //! Promised: a `FrontedWire` gives the bytes that were read before it was made, and then those of the wire behind it. A
-//! `PatientStream` asks its `Patience` before each call how long that may wait: a `Deadline` is one limit over all calls together,
-//! `UntilStopped` ends the wait for a head where the balancer stops. `StreamLimits` are set on a stream once, for each call alone.
+//! `PatientStream` asks its `Patience` before each call how long that may wait: a `Deadline` is one limit over all calls together.
+//! `StreamLimits` are set on a stream once, for each call alone.
 //! `end_gently` ends a stream so that the peer gets all that was sent. Start at `FrontedWire`, whose words are those of `Wire`.
 #![tactic(auto)]
 
@@ -13,7 +13,6 @@ mod fronted;
 mod limits;
 mod patience;
 mod patient;
-mod stopping;
 
 pub use deadline::Deadline;
 pub use draining::{Drained, drain, end_gently};
@@ -21,4 +20,3 @@ pub use fronted::FrontedWire;
 pub use limits::StreamLimits;
 pub use patience::Patience;
 pub use patient::PatientStream;
-pub use stopping::UntilStopped;

@@ -1,12 +1,11 @@
 ghost use Rattle.std.specs.Prelude.{◌≤◌, IfOk};
 
-use http_relay_socket::{Deadline, PatientStream, StreamLimits, UntilStopped};
+use http_relay_socket::{Deadline, PatientStream, StreamLimits};
 use http_relay_wire::{SocketWire, Wire, WireFault, write_all};
 use std::cell::Cell;
 use std::io;
 use std::io::{ErrorKind, Read, Write};
 use std::net::OpenStream;
-use std::sync::atomic::AtomicBool;
 use std::time::{Clock, Duration};
 
 const TIMEOUT: WireFault = WireFault::Timeout;
@@ -141,30 +140,6 @@ fn without_a_clock_the_deadline_has_passed(rt: HostRuntime) {
     time.is_lost.set(true);
     let mut wire = SocketWire::new(PatientStream::new(Slow::new(&time, 1), deadline));
     assert!(rt; wire.read(&mut [0; 8]) == Err(TIMEOUT) && wire.write(b"a") == Err(TIMEOUT));
-}
-
-// Whether all is to stop, whether the head was read, and what a read answers for whose byte a second has to pass.
-const STOPS: &[(bool, bool, Result<usize, WireFault>)] = &[
-    (false, false, Ok(1)),
-    (false, true, Ok(1)),
-    (true, false, Err(WireFault::Broken)),
-    (true, true, Ok(1)),
-];
-
-// A stop ends the wait for a head, and no other. Bytes take 200 ms, less than a turn of the wait.
-#[test]
-fn a_stop_ends_the_wait_for_a_head_alone(rt: HostRuntime) {
-    for (is_stopped, is_read, answer) in STOPS {
-        let time = Time::new();
-        let stop = AtomicBool::new(*is_stopped);
-        let head_read = AtomicBool::new(*is_read);
-        let patience = UntilStopped::new(&stop, &head_read);
-        let mut wire = SocketWire::new(PatientStream::new(Slow::new(&time, 200), patience));
-        assert!(rt;
-            wire.read(&mut [0; 8]) == *answer,
-            "{is_stopped}, {is_read}"
-        );
-    }
 }
 
 // Limits in milliseconds as they are given, and as the stream has them.

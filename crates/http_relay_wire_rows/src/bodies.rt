@@ -104,9 +104,17 @@ fn where_no_byte_is_wanted_nothing_is_read(rt: HostRuntime) {
     }
 }
 
-// Bytes that may still become a body are cut short, and bytes that can become none are refused. The first size of the fourth and
-// fifth row is 2^64 - 1.
-const BAD_BODIES: [(BodyKind, &[u8], BodyFault); 27] = [
+// Bytes that may still become a body are cut short, and bytes that can become none are refused, also inside a line. The first size of
+// two rows is 2^64 - 1.
+const BAD_BODIES: [(BodyKind, &[u8], BodyFault); 43] = [
+    (CHUNKS, b"", BodyFault::Truncated),
+    (CHUNKS, b"1\r", BodyFault::Truncated),
+    (CHUNKS, b"1\r\nx\r", BodyFault::Truncated),
+    (CHUNKS, b"0\r\n\r", BodyFault::Truncated),
+    (CHUNKS, b"0\r\nX", BodyFault::Truncated),
+    (CHUNKS, b"0\r\nX:", BodyFault::Truncated),
+    (CHUNKS, b"0\r\nX: 1\r", BodyFault::Truncated),
+    (CHUNKS, b"0\r\nX: 1\r\nY", BodyFault::Truncated),
     (CHUNKS, b"1;a", BodyFault::Truncated),
     (CHUNKS, b"1 ", BodyFault::Truncated),
     (CHUNKS, b"0\r\nX: 1\r\n", BodyFault::Truncated),
@@ -150,6 +158,14 @@ const BAD_BODIES: [(BodyKind, &[u8], BodyFault); 27] = [
     (CHUNKS, b"0\r\nX : 1\r\n\r\n", BodyFault::BadChunk),
     (CHUNKS, b"0\r\nX: \x001\r\n\r\n", BodyFault::BadChunk),
     (CHUNKS, b"0\r\n folded\r\n\r\n", BodyFault::BadChunk),
+    (CHUNKS, b"zz", BodyFault::BadChunk),
+    (CHUNKS, b"1\r\nxy", BodyFault::BadChunk),
+    (CHUNKS, b"0\r\n:", BodyFault::BadChunk),
+    (CHUNKS, b"0\r\nX ", BodyFault::BadChunk),
+    (CHUNKS, b"0\r\nX: \x00", BodyFault::BadChunk),
+    (CHUNKS, b"0\r\nX: 1\r2", BodyFault::BadChunk),
+    (CHUNKS, b"0\r\nX: 1\r\n y", BodyFault::BadChunk),
+    (CHUNKS, b"0\r\n\rX", BodyFault::BadChunk),
 ];
 
 #[test]
@@ -168,6 +184,26 @@ fn bad_bodies_are_told_by_their_faults(rt: HostRuntime) {
                 "{kind:?}, {input:?} in {pieces:?}"
             );
         }
+    }
+}
+
+// Nothing is waited for behind bytes that can become no body: so a read that fails behind them is never made.
+#[test]
+fn bad_bodies_are_told_before_the_client_fails(rt: HostRuntime) {
+    for (kind, input, fault) in BAD_BODIES {
+        let failing = Script {
+            pieces: &[1],
+            reads: input.len() as u64,
+            ..Script::SMOOTH
+        };
+        let due = match fault {
+            BodyFault::Truncated => BodyFault::Client(WireFault::Broken),
+            other => other,
+        };
+        let mut client = ScriptedWire::new(rt.alloc(), input, failing);
+        let mut server = ScriptedWire::new(rt.alloc(), b"", Script::SMOOTH);
+        let answer = send_body(kind, b"", &mut client, &mut server);
+        assert!(rt; answer == Err(due), "{kind:?}, {input:?}");
     }
 }
 

@@ -5,7 +5,7 @@ use Rattle.lb_types.specs.Servers.{has, members}
 use Rattle.lb_acl.specs.declared.key.TableType.{TableType}
 use Rattle.lb_acl.specs.declared.key.TableType.TheVariants.{Ip, Text}
 use Rattle.lb_desk_model.specs.declared.backend.BackendServer.{BackendServer}
-use Rattle.lb_desk_model.specs.declared.table_pin.TablePin.{TablePin}
+use Rattle.pin_set.specs.declared.table_pin.TablePin.{TablePin}
 use Rattle.lb_answers.specs.declared.named_backend.NamedTable.{NamedTable}
 use Rattle.lb_answers.specs.Events.{cost_text}
 use Rattle.lb_answers.specs.Keys.{key_word}

@@ -18,10 +18,10 @@ use dual_cert_plan::Plan;
 use dual_cert_text::TextFault;
 use dual_cert_write::sending::{Sent, send};
 use dual_cert_write::{WriteFailed, write_plan};
-use lb_desk_model::{Entry, Reply, TablePin};
+use lb_desk_model::{Entry, Reply};
 use lb_types::Place;
 use lb_types_counted::Counted;
-use pin_set::Score;
+use pin_set::{Score, TablePin};
 use std::io::Write;
 
 /// What an operator or a replay is answered. It borrows what it tells of.

@@ -9,9 +9,10 @@ use crate::named_backend::{NamedBackend, NamedTable};
 use crate::names::{send_labelled, send_server};
 use dual_cert_write::sending::{Sent, send};
 use lb_acl::TableType;
-use lb_desk_model::{BackendServer, TablePin};
+use lb_desk_model::BackendServer;
 use lb_types::{MAX_SERVERS, Name, Place, ServerId, ServerSet};
 use lb_types_counted::Counted;
+use pin_set::TablePin;
 use std::io::Write;
 
 /// Sends the table's heading and a line for each pin, or that there is no table.

@@ -1,13 +1,16 @@
 ghost use Rattle.std.specs.Prelude.{◌≡◌, ◌++◌, codes, OnOk, IfOk, IfSome};
 ghost use Rattle.std.specs.List.{flat_map};
 ghost use Rattle.std.specs.Io.KnownBytes.{Appends};
+ghost use Rattle.lb_types_counted.specs.Writers.{WritesFront};
 ghost use Rattle.lb_config_sections.specs.References.{checked_in};
 ghost use Rattle.lb_cli.specs.Checking.{warning_line, report_of, is_valid};
+ghost use Rattle.lb_cli.specs.Hindered.{OnCannotWrite, OnNoAnswer};
 
 use crate::JobError;
 use crate::input::whole;
 use lb_cli_faults::{config_fault_line, push_line_label};
 use lb_config_sections::{ConfigFault, Sections, Warning, read_checked};
+use lb_types::Counted;
 use std::alloc::{AllocError, Global};
 use std::io::{Read, Write};
 
@@ -15,10 +18,19 @@ use std::io::{Read, Write};
 /// ignored and then `configuration is valid`; or the first fault, as `line 2: 22 UnknownWord`. Tells whether it is valid.
 ///
 /// The text is read whole: one that is larger than memory is want of memory.
-pub fn check<R: Read, W: Write>(alloc: Global, file: &mut R, out: &mut W) -> Result<bool, JobError>
+pub fn check<R: Read, W: Write>(
+    alloc: Global,
+    file: &mut R,
+    out: &mut Counted<W>,
+) -> Result<bool, JobError>
     ensures valid { IfOk result (λ valid. IfSome (R.remaining file.old) (λ text. valid ≡ is_valid (checked_in text))) }
     ensures written { OnOk result (IfSome (R.remaining file.old) (λ text.
-        Appends (W.contents out.old) (W.contents out.new) (report_of (checked_in text)))) }
+        Appends out.old.contents out.new.contents (report_of (checked_in text)))) }
+
+    // Where it is hindered.
+    ensures cut { OnCannotWrite result (IfSome (R.remaining file.old) (λ text.
+        WritesFront out.old out.new (report_of (checked_in text)))) }
+    ensures silent { OnNoAnswer result (out.new ≡ out.old) }
 {
     let text = whole(alloc, file)?;
     let report = Report::of(alloc, &text)?;

@@ -1,4 +1,5 @@
-ghost use Rattle.std.specs.Prelude.{◌≡◌, IfOk, IfSome};
+ghost use Rattle.std.specs.Prelude.{◌≡◌, ◌≢◌, IfOk, IfErr, IfSome};
+ghost use Rattle.lb_cli_faults.specs.declared.job_error.JobError.TheVariants.{CannotWrite};
 
 use crate::JobError;
 use std::alloc::Global;
@@ -6,7 +7,8 @@ use std::io::{ErrorKind, Read};
 
 /// All bytes that are left to read.
 pub(crate) fn whole<R: Read>(alloc: Global, file: &mut R) -> Result<Vec<u8>, JobError>
-    ensures { IfOk result (λ text. IfSome (R.remaining file.old) (λ all. text.items ≡ all)) }
+    ensures whole { IfOk result (λ text. IfSome (R.remaining file.old) (λ all. text.items ≡ all)) }
+    ensures hindered { IfErr result (λ error. error ≢ CannotWrite) }
 {
     let mut text = Vec::new(alloc);
     match file.read_to_end(&mut text) {

@@ -31,18 +31,19 @@ pub fn perform<'a, R: Files, O: Write, E: Write>(
     out: &mut O,
     err: &mut E,
 ) -> Performed<'a> {
+    let mut out = Counted::new(out);
     let (file, done) = match job {
-        Job::Verify { file } => (file, verify_file(alloc, rt, file, out)),
-        Job::VerifyForSheet { sheet, plan } => verify_files(alloc, rt, sheet, plan, out),
-        Job::Plan { file } => (file, plan_file(alloc, rt, file, out)),
-        Job::PlanTable { file } => (file, table_file(alloc, rt, file, out)),
-        Job::Check { file } => (file, check_file(alloc, rt, file, out)),
-        Job::Replay { config, script } => replay_files(alloc, rt, config, script, out, err),
+        Job::Verify { file } => (file, verify_file(alloc, rt, file, &mut out)),
+        Job::VerifyForSheet { sheet, plan } => verify_files(alloc, rt, sheet, plan, &mut out),
+        Job::Plan { file } => (file, plan_file(alloc, rt, file, &mut out)),
+        Job::PlanTable { file } => (file, table_file(alloc, rt, file, &mut out)),
+        Job::Check { file } => (file, check_file(alloc, rt, file, &mut out)),
+        Job::Replay { config, script } => replay_files(alloc, rt, config, script, &mut out, err),
         Job::Run { file } => match whole_file(alloc, rt, file) {
             Ok(text) => return Performed::Run { file, text },
             Err(error) => (file, Err(error)),
         },
-        Job::Version => ("", version(out)),
+        Job::Version => ("", version(&mut out)),
     };
     Performed::Ended(end(done, file, err))
 }
@@ -73,7 +74,7 @@ fn verify_file<R: Files, O: Write>(
     alloc: Global,
     rt: &R,
     path: &str,
-    out: &mut O,
+    out: &mut Counted<O>,
 ) -> Result<bool, JobError> {
     let mut file = opened(rt, path)?;
     Ok(verify(alloc, &mut file, out)?.is_best())
@@ -86,7 +87,7 @@ fn verify_files<'a, R: Files, O: Write>(
     rt: &R,
     sheet_path: &'a str,
     plan_path: &'a str,
-    out: &mut O,
+    out: &mut Counted<O>,
 ) -> (&'a str, Result<bool, JobError>) {
     match sheet_file(alloc, rt, sheet_path, out) {
         Ok(Some(sheet)) => (plan_path, plan_file_for(alloc, rt, &sheet, plan_path, out)),
@@ -100,7 +101,7 @@ fn sheet_file<R: Files, O: Write>(
     alloc: Global,
     rt: &R,
     path: &str,
-    out: &mut O,
+    out: &mut Counted<O>,
 ) -> Result<Option<Sheet>, JobError> {
     let mut file = opened(rt, path)?;
     sheet_for(alloc, &mut file, out)
@@ -112,7 +113,7 @@ fn plan_file_for<R: Files, O: Write>(
     rt: &R,
     sheet: &Sheet,
     path: &str,
-    out: &mut O,
+    out: &mut Counted<O>,
 ) -> Result<bool, JobError> {
     let mut file = opened(rt, path)?;
     Ok(verify_for(alloc, sheet, &mut file, out)?.is_best())
@@ -123,7 +124,7 @@ fn table_file<R: Files, O: Write>(
     alloc: Global,
     rt: &R,
     path: &str,
-    out: &mut O,
+    out: &mut Counted<O>,
 ) -> Result<bool, JobError> {
     let mut file = opened(rt, path)?;
     plan_tables(alloc, &mut file, out)
@@ -136,7 +137,7 @@ fn replay_files<'a, R: Files, O: Write, E: Write>(
     rt: &R,
     config_path: &'a str,
     script_path: &'a str,
-    out: &mut O,
+    out: &mut Counted<O>,
     err: &mut E,
 ) -> (&'a str, Result<bool, JobError>) {
     match whole_file(alloc, rt, config_path) {
@@ -159,7 +160,7 @@ fn replay_file<R: Files, O: Write, E: Write>(
     rt: &R,
     config: &[u8],
     path: &str,
-    out: &mut O,
+    out: &mut Counted<O>,
     err: &mut E,
 ) -> Result<bool, JobError> {
     let Ok(script) = opened(rt, path) else {
@@ -182,7 +183,7 @@ fn replay_lines<S: BufRead + Drop, O: Write, E: Write>(
     alloc: Global,
     config: &[u8],
     script: S,
-    out: &mut O,
+    out: &mut Counted<O>,
     err: &mut E,
 ) -> Result<bool, JobError> {
     let Ok(buffer) = BufWriter::new(alloc, out) else {
@@ -204,7 +205,7 @@ fn plan_file<R: Files, O: Write>(
     alloc: Global,
     rt: &R,
     path: &str,
-    out: &mut O,
+    out: &mut Counted<O>,
 ) -> Result<bool, JobError> {
     let mut file = opened(rt, path)?;
     plan(alloc, &mut file, out)
@@ -215,7 +216,7 @@ fn check_file<R: Files, O: Write>(
     alloc: Global,
     rt: &R,
     path: &str,
-    out: &mut O,
+    out: &mut Counted<O>,
 ) -> Result<bool, JobError> {
     let mut file = opened(rt, path)?;
     check(alloc, &mut file, out)

@@ -3,9 +3,9 @@
 //!
 //! Promised: `verify` writes the line of `specs/Verify.antt` for its text, and so does `verify_for`, by a sheet that `sheet_for` read;
 //! `plan` writes an answer of `specs/Planning.antt` for its sheet, `plan_tables` one of `specs/Tables.antt`, and `check` the report of
-//! `specs/Checking.antt` for its configuration, and nothing else. A plan that `verify` or `verify_for` calls best, and one that `plan`
-//! or `plan_tables` writes, is best. Start there, and at `perform`, which finds the job's files and tells the program's exit status,
-//! that of `status_of`.
+//! `specs/Checking.antt` for its configuration, and nothing else. Of an answer that can't be written a beginning goes out, and nothing
+//! where a job comes to none. A plan that `verify` or `verify_for` calls best, and one that `plan` or `plan_tables` writes, is best.
+//! Start there, and at `perform`, which finds the job's files and tells the program's exit status, that of `status_of`.
 #![tactic(auto)]
 
 mod check_job;

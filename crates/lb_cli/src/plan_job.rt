@@ -1,7 +1,9 @@
 ghost use Rattle.std.specs.Prelude.{◌≡◌, ◌++◌, ◌∷◌, [], ℕ, List, false, OnOk, IfOk, IfSome};
 ghost use Rattle.std.specs.Io.KnownBytes.{Appends};
+ghost use Rattle.lb_types_counted.specs.Writers.{WritesFront};
 ghost use Rattle.dual_cert.specs.Faults.{fault_text};
 ghost use Rattle.dual_cert.specs.SheetTexts.{sheet_of_text};
+ghost use Rattle.lb_cli.specs.Hindered.{OnCannotWrite, OnNoAnswer};
 ghost use Rattle.lb_cli.specs.Planning.{Answers, IsPlanFor, was_read};
 ghost use Rattle.lb_cli.specs.Tables.{AreTablesFor, TellsTables};
 
@@ -18,11 +20,20 @@ use std::io::{Read, Write};
 /// first fault of the text. Tells whether the text was a sheet's.
 ///
 /// The sheet and the plan's text are held whole: what is larger than memory is want of memory.
-pub fn plan<R: Read, W: Write>(alloc: Global, file: &mut R, out: &mut W) -> Result<bool, JobError>
+pub fn plan<R: Read, W: Write>(
+    alloc: Global,
+    file: &mut R,
+    out: &mut Counted<W>,
+) -> Result<bool, JobError>
     ensures read { IfOk result (λ is_sheet. IfSome (R.remaining file.old) (λ text.
         is_sheet ≡ was_read (sheet_of_text text))) }
     ensures written { OnOk result (IfSome (R.remaining file.old) (λ text.
-        (written : List ℕ) × Answers text written × Appends (W.contents out.old) (W.contents out.new) written)) }
+        (written : List ℕ) × Answers text written × Appends out.old.contents out.new.contents written)) }
+
+    // Where it is hindered.
+    ensures cut { OnCannotWrite result (IfSome (R.remaining file.old) (λ text.
+        (answer : List ℕ) × Answers text answer × WritesFront out.old out.new answer)) }
+    ensures silent { OnNoAnswer result (out.new ≡ out.old) }
 {
     let text = whole(alloc, file)?;
     Answer::to(alloc, &text)?.write(out)
@@ -36,12 +47,17 @@ pub fn plan<R: Read, W: Write>(alloc: Global, file: &mut R, out: &mut W) -> Resu
 pub fn plan_tables<R: Read, W: Write>(
     alloc: Global,
     file: &mut R,
-    out: &mut W,
+    out: &mut Counted<W>,
 ) -> Result<bool, JobError>
     ensures read { IfOk result (λ is_sheet. IfSome (R.remaining file.old) (λ text.
         is_sheet ≡ was_read (sheet_of_text text))) }
     ensures written { OnOk result (IfSome (R.remaining file.old) (λ text.
-        (written : List ℕ) × TellsTables text written × Appends (W.contents out.old) (W.contents out.new) written)) }
+        (written : List ℕ) × TellsTables text written × Appends out.old.contents out.new.contents written)) }
+
+    // Where it is hindered.
+    ensures cut { OnCannotWrite result (IfSome (R.remaining file.old) (λ text.
+        (answer : List ℕ) × TellsTables text answer × WritesFront out.old out.new answer)) }
+    ensures silent { OnNoAnswer result (out.new ≡ out.old) }
 {
     let text = whole(alloc, file)?;
     Answer::with_tables(alloc, &text)?.write(out)
@@ -97,9 +113,11 @@ impl Answer {
     }
 
     /// Writes the answer, and tells whether the text was a sheet's.
-    fn write<W: Write>(&self, out: &mut W) -> Result<bool, JobError>
+    fn write<W: Write>(&self, out: &mut Counted<W>) -> Result<bool, JobError>
         ensures read { IfOk result (λ is_sheet. is_sheet ≡ self.now.is_sheet) }
-        ensures written { OnOk result (Appends (W.contents out.old) (W.contents out.new) self.now.text.items) }
+        ensures written { OnOk result (Appends out.old.contents out.new.contents self.now.text.items) }
+        ensures cut { OnCannotWrite result (WritesFront out.old out.new self.now.text.items) }
+        ensures silent { OnNoAnswer result (out.new ≡ out.old) }
     {
         match out.write_all(&self.text) {
             Ok(()) => Ok(self.is_sheet),

@@ -1,13 +1,16 @@
 ghost use Rattle.std.specs.Prelude.{◌≡◌, ◌++◌, ◌∷◌, [], codes, OnOk, IfOk, IfSome};
 ghost use Rattle.std.specs.Io.KnownBytes.{Appends};
+ghost use Rattle.lb_types_counted.specs.Writers.{WritesFront};
 ghost use Rattle.dual_cert.specs.Faults.{fault_text};
 ghost use Rattle.dual_cert.specs.SheetTexts.{sheet_of_text};
 ghost use Rattle.lb_cli.specs.Asking.{complaint_of, sheet_read};
+ghost use Rattle.lb_cli.specs.Hindered.{OnCannotWrite, OnNoAnswer};
 ghost use Rattle.lb_cli.specs.Verify.{finding_for, MeansBestFor, line_of};
 
 use crate::input::whole;
 use crate::{Finding, JobError};
 use dual_cert::{ReadError, Sheet, TextFault, read_sheet};
+use lb_types::Counted;
 use std::alloc::{AllocError, Global};
 use std::io::{Read, Write};
 
@@ -18,12 +21,17 @@ use std::io::{Read, Write};
 pub fn sheet_for<R: Read, W: Write>(
     alloc: Global,
     file: &mut R,
-    out: &mut W,
+    out: &mut Counted<W>,
 ) -> Result<Option<Sheet>, JobError>
     ensures read { IfOk result (λ sheet. IfSome (R.remaining file.old) (λ text.
         sheet ≡ sheet_read (sheet_of_text text))) }
     ensures written { OnOk result (IfSome (R.remaining file.old) (λ text.
-        Appends (W.contents out.old) (W.contents out.new) (complaint_of (sheet_of_text text)))) }
+        Appends out.old.contents out.new.contents (complaint_of (sheet_of_text text)))) }
+
+    // Where it is hindered.
+    ensures cut { OnCannotWrite result (IfSome (R.remaining file.old) (λ text.
+        WritesFront out.old out.new (complaint_of (sheet_of_text text)))) }
+    ensures silent { OnNoAnswer result (out.new ≡ out.old) }
 {
     let text = whole(alloc, file)?;
     let fault = match read_sheet(alloc, &text) {
@@ -47,14 +55,19 @@ pub fn verify_for<R: Read, W: Write>(
     alloc: Global,
     sheet: &Sheet,
     file: &mut R,
-    out: &mut W,
+    out: &mut Counted<W>,
 ) -> Result<Finding, JobError>
     ensures finding { IfOk result (λ finding. IfSome (R.remaining file.old) (λ text.
         finding ≡ finding_for sheet.now text)) }
     ensures best { IfOk result (λ finding. IfSome (R.remaining file.old) (λ text.
         MeansBestFor sheet.now text finding)) }
     ensures written { OnOk result (IfSome (R.remaining file.old) (λ text.
-        Appends (W.contents out.old) (W.contents out.new) (line_of (finding_for sheet.now text)))) }
+        Appends out.old.contents out.new.contents (line_of (finding_for sheet.now text)))) }
+
+    // Where it is hindered.
+    ensures cut { OnCannotWrite result (IfSome (R.remaining file.old) (λ text.
+        WritesFront out.old out.new (line_of (finding_for sheet.now text)))) }
+    ensures silent { OnNoAnswer result (out.new ≡ out.old) }
 {
     let text = whole(alloc, file)?;
     let finding = Finding::for_sheet(alloc, sheet, &text)?;

@@ -1,9 +1,12 @@
 ghost use Rattle.std.specs.Prelude.{◌≡◌, OnOk, IfOk, IfSome};
 ghost use Rattle.std.specs.Io.KnownBytes.{Appends};
+ghost use Rattle.lb_types_counted.specs.Writers.{WritesFront};
+ghost use Rattle.lb_cli.specs.Hindered.{OnCannotWrite, OnNoAnswer};
 ghost use Rattle.lb_cli.specs.Verify.{finding_of, MeansBest, line_of};
 
 use crate::input::whole;
 use crate::{Finding, JobError};
+use lb_types::Counted;
 use std::alloc::Global;
 use std::io::{Read, Write};
 
@@ -14,13 +17,18 @@ use std::io::{Read, Write};
 pub fn verify<R: Read, W: Write>(
     alloc: Global,
     file: &mut R,
-    out: &mut W,
+    out: &mut Counted<W>,
 ) -> Result<Finding, JobError>
     ensures finding { IfOk result (λ finding. IfSome (R.remaining file.old) (λ text.
         finding ≡ finding_of text)) }
     ensures best { IfOk result (λ finding. IfSome (R.remaining file.old) (λ text. MeansBest text finding)) }
     ensures written { OnOk result (IfSome (R.remaining file.old) (λ text.
-        Appends (W.contents out.old) (W.contents out.new) (line_of (finding_of text)))) }
+        Appends out.old.contents out.new.contents (line_of (finding_of text)))) }
+
+    // Where it is hindered.
+    ensures cut { OnCannotWrite result (IfSome (R.remaining file.old) (λ text.
+        WritesFront out.old out.new (line_of (finding_of text)))) }
+    ensures silent { OnNoAnswer result (out.new ≡ out.old) }
 {
     let text = whole(alloc, file)?;
     let finding = Finding::of(alloc, &text)?;

@@ -1,8 +1,8 @@
 -- A backend by its parts.
 use Rattle.std.proofs.Common.{◌≡◌, ℕ, List, map, refl}
 use Rattle.std.specs.Prelude.{unwrap_or}
-use Rattle.lb_config_keywords.specs.declared.balance.Balance.{Balance}
-use Rattle.lb_config_keywords.specs.declared.balance.Balance.TheVariants.{RoundRobin}
+use Rattle.lb_types.specs.declared.balance.Balance.{Balance}
+use Rattle.lb_types.specs.declared.balance.Balance.TheVariants.{RoundRobin}
 use Rattle.lb_config_rules.specs.Rules.{back_rules}
 use Rattle.lb_config_rules.specs.RulesView.{BackRulesView}
 use Rattle.lb_config_sections.specs.declared.config_section.NumberedSetting.{NumberedSetting}

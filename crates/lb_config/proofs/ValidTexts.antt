@@ -1,6 +1,5 @@
 -- The configuration of a valid text.
-use Rattle.std.proofs.Common.{◌≡◌, List, [], ◌∷◌, length, Option, Some, None, IfSome, All, unwrap_or, sym, ap, subst, ◌∙◌, arith}
-use Rattle.std.specs.List.{cons_option, last_or}
+use Rattle.std.proofs.Common.{◌≡◌, List, [], ◌∷◌, length, IfSome, All, sym, ap, subst, ◌∙◌, arith}
 use Rattle.std.proofs.lemmas.List.{length-map}
 use Rattle.std.proofs.lemmas.List.Elements.{All-head, All-tail}
 use Rattle.lb_config_arguments.specs.Ranges.{IsFromTo}
@@ -16,30 +15,16 @@ use Rattle.lb_config_sections.specs.SectionsView.{SectionsView}
 use Rattle.lb_config_sections.specs.declared.config_section.NumberedSetting.{NumberedSetting}
 use Rattle.lb_config_values.specs.DefaultsLines.{no_defaults}
 use Rattle.lb_config_values.specs.GlobalsView.{GlobalsView}
-use Rattle.lb_config_values.specs.Values.{journal_in, last_said, no_globals, relays_in, said, tries_in}
+use Rattle.lb_config_values.specs.Values.{journal_in, no_globals, relays_in, socket_in, tries_in}
 use Rattle.lb_config_valid.specs.Names.{AreNames}
-use Rattle.lb_config_valid.specs.Numbers.{HasNumbers}
+use Rattle.lb_config_valid.specs.Numbers.{HasNumbers, IsSocket}
 use Rattle.lb_config_valid.specs.Valid.{AreValid, OfEachSetting}
 use Rattle.lb_config.specs.ConfigViews.{BackendView}
 use Rattle.lb_config.specs.Configs.{backends_behind, basis_of, config_of, frontends_behind, globals_in, globals_of, with_global_section}
 use Rattle.lb_config.specs.ValidConfigs.{IsConfig, LeadsWithin, names_of}
+use Rattle.lb_config.proofs.InRange.{backends_ok, frontends_ok, nothing_said}
+use Rattle.lb_config.proofs.LastSaid.{HaveNumbers, last_ok, or_default}
 use Rattle.lb_config.proofs.Places.{backends_want, frontends_lead, names_are, same_journals, same_names}
-
--- one value more, if there is one
-next_ok : {A : Type 0} (P : A → Type 0) (before : Option A) (value : Option A) (rest : List A) →
-    ((start : Option A) → IfSome start P → IfSome (last_or start rest) P) → IfSome value P → IfSome before P → IfSome (last_or before (cons_option value rest)) P
-next_ok P before None rest ends is was = ends before was
-next_ok P before (Some x) rest ends is was = ends (Some x) is
-
--- the last that is said, if each is so
-last_ok : {A : Type 0} (P : A → Type 0) (value : Setting → Option A) → ((setting : Setting) → HasNumbers setting → IfSome (value setting) P) →
-    (settings : List NumberedSetting) → All (λ numbered. HasNumbers numbered.setting) settings → (before : Option A) → IfSome before P →
-    IfSome (last_said before value settings) P
-last_ok P value is [] are before was = was
-last_ok P value is (numbered ∷ more) are before was =
-    next_ok P before (value numbered.setting) (said value more)
-    (λ start so. last_ok P value is more (All-tail (λ (one : NumberedSetting). HasNumbers one.setting) numbered more are) start so)
-    (is numbered.setting (All-head (λ (one : NumberedSetting). HasNumbers one.setting) numbered more are)) was
 
 relays_ok : (setting : Setting) → HasNumbers setting → IfSome (relays_in setting) (IsFromTo 1 MAX_RELAYS)
 relays_ok (Set.Relays number) is = is
@@ -53,18 +38,24 @@ journal_ok : (setting : Setting) → HasNumbers setting → IfSome (journal_in s
 journal_ok (Set.Journal number) is = is
 journal_ok _ is = tt
 
+socket_ok : (setting : Setting) → HasNumbers setting → IfSome (socket_in setting) IsSocket
+socket_ok (Set.StatsSocket socket) is = is
+socket_ok _ is = tt
+
 -- what is said of the whole program
 record AreGlobals (globals : GlobalsView) : Type 0 where
   relays : IfSome globals.relays (IsFromTo 1 MAX_RELAYS)
   tries : IfSome globals.tries (IsFromTo 1 MAX_TRIES)
   journal : IfSome globals.journal (IsFromTo 1 MAX_JOURNAL)
+  socket : IfSome globals.socket IsSocket
 
-section_globals : (globals : GlobalsView) (kind : Section) (settings : List NumberedSetting) → All (λ numbered. HasNumbers numbered.setting) settings → AreGlobals globals →
+section_globals : (globals : GlobalsView) (kind : Section) (settings : List NumberedSetting) → HaveNumbers settings → AreGlobals globals →
     AreGlobals (with_global_section globals kind settings)
 section_globals globals Kind.Global settings are is = record {
   relays = last_ok (IsFromTo 1 MAX_RELAYS) relays_in relays_ok settings are globals.relays is.relays;
   tries = last_ok (IsFromTo 1 MAX_TRIES) tries_in tries_ok settings are globals.tries is.tries;
   journal = last_ok (IsFromTo 1 MAX_JOURNAL) journal_in journal_ok settings are globals.journal is.journal;
+  socket = last_ok IsSocket socket_in socket_ok settings are globals.socket is.socket;
 }
 section_globals globals _ settings are is = is
 
@@ -76,17 +67,12 @@ all_globals globals (section ∷ more) are is =
     (section_globals globals section.header.section section.settings
     (All-head (λ (one : SectionView). All (λ (numbered : NumberedSetting). HasNumbers numbered.setting) one.settings) section more are) is)
 
--- a value, or its default
-or_default : {A : Type 0} (P : A → Type 0) (o : Option A) (default : A) → IfSome o P → P default → P (unwrap_or o default)
-or_default P None default is by_default = by_default
-or_default P (Some x) default is by_default = is
-
 pub config_is_valid : (sections : SectionsView) → AreValid sections.sections → IsConfig (config_of sections)
 unfolding config_of
 config_is_valid sections are =
     let all = sections.sections in
     let basis = basis_of all in
-    let globals : AreGlobals (globals_of all) = all_globals no_globals all are.numbers (record { relays = tt; tries = tt; journal = tt }) in
+    let globals : AreGlobals (globals_of all) = all_globals no_globals all are.numbers (record { relays = tt; tries = tt; journal = tt; socket = tt }) in
     let names : names_of (backends_behind basis no_defaults all) ≡ gathered backend_name all = names_are basis no_defaults all in
     let count : length basis.backends ≡ length (backends_behind basis no_defaults all) =
     ap length (same_names all ∙ sym names) ∙ length-map (backends_behind basis no_defaults all) (λ (backend : BackendView). backend.name) in
@@ -95,6 +81,9 @@ config_is_valid sections are =
       tries = or_default (IsFromTo 1 MAX_TRIES) (globals_of all).tries 8 globals.tries (omega arith, omega arith);
       journals = same_journals (IsFromTo 1 MAX_JOURNAL) basis no_defaults all
           (or_default (IsFromTo 1 MAX_JOURNAL) (globals_of all).journal 100000 globals.journal (omega arith, omega arith));
+      socket = globals.socket;
+      front_ranges = frontends_ok basis no_defaults all are.numbers nothing_said;
+      back_ranges = backends_ok basis no_defaults all are.numbers nothing_said;
       backends = subst (AreNames MAX_BACKENDS) (sym names) are.backends;
       leads = subst (λ most. All (LeadsWithin most) (frontends_behind basis no_defaults all)) count (frontends_lead basis no_defaults all);
       wants = backends_want basis no_defaults all;

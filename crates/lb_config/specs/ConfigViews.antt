@@ -1,6 +1,6 @@
 -- A configuration as contracts see it.
 use Rattle.std.specs.Prelude.{ℕ, Bool, List, Option}
-use Rattle.lb_config_keywords.specs.declared.balance.Balance.{Balance}
+use Rattle.lb_types.specs.declared.balance.Balance.{Balance}
 use Rattle.lb_config_keywords.specs.declared.stats_socket.SocketAddress.{SocketAddress}
 use Rattle.lb_config_rules.specs.RulesView.{BackRulesView, FrontRulesView}
 use Rattle.lb_config_sections.specs.declared.warning.Warning.{Warning}

@@ -5,7 +5,7 @@ use Rattle.std.specs.Prelude.{ℕ, List, [], ◌∷◌, ◌++◌, map, Option, S
 use Rattle.std.specs.List.{filter_map}
 use Rattle.std.specs.Option.{option_map, option_or, option_to_list}
 use Rattle.check_workers_rule.specs.CheckRequests.{CheckLine}
-use Rattle.lb_config_keywords.specs.declared.balance.Balance.TheVariants.{RoundRobin}
+use Rattle.lb_types.specs.declared.balance.Balance.TheVariants.{RoundRobin}
 use Rattle.lb_config_lines.specs.declared.setting.Setting.{Setting}
 use Rattle.lb_config_keywords.specs.declared.section.Section.{Section}
 use Rattle.lb_config_keywords.specs.declared.section.Section.TheVariants as Kind

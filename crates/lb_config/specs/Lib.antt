@@ -7,4 +7,5 @@ pub mod Kept
 pub mod Limits
 pub mod ProxiesSoFar
 pub mod ProxiesSoFarView
+pub mod Ranges
 pub mod ValidConfigs

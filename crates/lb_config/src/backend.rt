@@ -3,10 +3,9 @@ ghost use Rattle.std.specs.Str.{bytes_eq};
 ghost use Rattle.lb_config.specs.Kept.{IsServers};
 ghost use Rattle.lb_config.specs.Limits.{limit_of, queue_limit, probe_limit};
 
-use lb_config_lines::Balance;
 use lb_config_rules::BackRules;
 use lb_config_values::{ServerConfig, Timeouts};
-use lb_types::Name;
+use lb_types::{Balance, Name};
 use std::marker::Model;
 
 /// A backend: what the configuration says of its servers, its pins and its requests.

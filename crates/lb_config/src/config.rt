@@ -1,9 +1,11 @@
-ghost use Rattle.std.specs.Prelude.{◌≡◌, length, All};
+ghost use Rattle.std.specs.Prelude.{◌≡◌, length, IfSome, All};
 ghost use Rattle.std.specs.Option.{option_copied};
 ghost use Rattle.lb_config_arguments.specs.Ranges.{IsFromTo};
 ghost use Rattle.lb_config_limits.specs.declared.declarations.TheConstants.{MAX_BACKENDS};
 ghost use Rattle.lb_config_lines.specs.declared.common_line.TheConstants.{MAX_JOURNAL, MAX_RELAYS, MAX_TRIES};
 ghost use Rattle.lb_config_valid.specs.Names.{AreNames};
+ghost use Rattle.lb_config_valid.specs.Numbers.{IsSocket};
+ghost use Rattle.lb_config.specs.Ranges.{HasBackRanges, HasFrontRanges};
 ghost use Rattle.lb_config.specs.ValidConfigs.{LeadsWithin, WantsOwn, names_of};
 
 use crate::{BackendConfig, Frontend};
@@ -64,27 +66,32 @@ impl Config {
         self.tries
     }
 
-    /// Where the command socket listens, if there is one.
+    /// Where the command socket listens, if there is one: a path, or an address with its port.
     pub fn socket(&self) -> Option<&SocketAddress>
-        ensures { option_copied result ≡ self.now.socket }
+        ensures exact { option_copied result ≡ self.now.socket }
+        ensures in_range { IfSome self.now.socket IsSocket }
     {
         self.socket.as_ref()
     }
 
     /// The frontends, sections `listen` among them, in their order. Each request goes to a backend that exists, if to any.
+    /// Their times are at most 2147483647 milliseconds, their ports 1 to 65535.
     pub fn frontends(&self) -> &[Frontend]
         ensures exact { result.now ≡ self.now.frontends }
+        ensures ranges { All HasFrontRanges self.now.frontends }
         ensures leads { All (LeadsWithin (length self.now.backends)) self.now.frontends }
     {
         &self.frontends
     }
 
     /// The backends, sections `listen` among them, in their order: at most 64, with distinct names. The servers that their rules
-    /// name exist.
+    /// name exist. Their times, and those of their servers and tables, are at most 2147483647 milliseconds, and the servers' ports
+    /// 1 to 65535.
     pub fn backends(&self) -> &[BackendConfig]
         ensures exact { result.now ≡ self.now.backends }
         ensures names { AreNames MAX_BACKENDS (names_of self.now.backends) }
         ensures journals { All (λ backend. IsFromTo 1 MAX_JOURNAL backend.journal) self.now.backends }
+        ensures ranges { All HasBackRanges self.now.backends }
         ensures wants { All WantsOwn self.now.backends }
     {
         &self.backends

@@ -112,7 +112,7 @@ fn later_size(size: Option<u32>, setting: &Setting) -> Option<u32>
     ensures within { ForSome result (λ number. number ≤ MAX_PINS) }
 {
     match setting {
-        Setting::StickTable(table) => Some(table.size()),
+        Setting::StickTable(table) => Some(table.settings().size),
         _ => size,
     }
 }

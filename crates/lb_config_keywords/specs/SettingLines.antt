@@ -13,8 +13,8 @@ use Rattle.lb_config_arguments.specs.Numbers.{number_in, time_in}
 use Rattle.lb_config_arguments.specs.Reading.{word_at, word_or_end_at, end_at, more_at, name_at}
 use Rattle.lb_config_arguments.specs.Rest.{Rest}
 use Rattle.lb_config_keywords.specs.declared.http_check.HttpCheck.{HttpCheck}
-use Rattle.lb_config_keywords.specs.declared.balance.Balance.{Balance}
-use Rattle.lb_config_keywords.specs.declared.balance.Balance.TheVariants.{RoundRobin, LeastConnections, First}
+use Rattle.lb_types.specs.declared.balance.Balance.{Balance}
+use Rattle.lb_types.specs.declared.balance.Balance.TheVariants.{RoundRobin, LeastConnections, First}
 use Rattle.lb_config_keywords.specs.declared.stats_socket.SocketAddress.{SocketAddress}
 use Rattle.lb_config_keywords.specs.declared.stats_socket.SocketAddress.TheVariants as Socket
 use Rattle.lb_config_keywords.specs.declared.stats_socket.StatsSocket.{StatsSocket}

@@ -4,17 +4,7 @@ ghost use Rattle.lb_config_keywords.specs.Sections.{is_one_of};
 ghost use Rattle.lb_config_keywords.specs.SettingLines.{left_out_balances, is_left_out_balance, balance_in, balance_at};
 
 use lb_config_arguments::{Fault, LineError, Words, is};
-
-/// How a server is picked for a request that wants none.
-#[derive(Clone, Copy, Debug, PartialEq, Eq)]
-pub enum Balance {
-    /// `roundrobin`.
-    RoundRobin,
-    /// `leastconn`.
-    LeastConnections,
-    /// `first`.
-    First,
-}
+use lb_types::Balance;
 
 /// The words behind `balance`.
 #[tactic(auto, unfolding(crate::specs::SettingLines::balance_at))]

@@ -14,7 +14,7 @@ mod section;
 mod setting_lines;
 mod stats_socket;
 
-pub use balance::{Balance, read_balance};
+pub use balance::read_balance;
 pub use http_check::{HttpCheck, read_http_check};
 pub use ignored::{is_ignored, is_left_out, is_left_out_section};
 pub use keyword::{CommonKeyword, ProxyKeyword, ServerKeyword};

@@ -12,7 +12,7 @@ mod statement;
 mod stick;
 
 pub use common_line::{MAX_JOURNAL, MAX_RELAYS, MAX_TRIES};
-pub use lb_config_keywords::{Balance, HttpCheck, Section, SocketAddress, StatsSocket, Timeout};
+pub use lb_config_keywords::{HttpCheck, Section, SocketAddress, StatsSocket, Timeout};
 pub use line::read_line;
 pub use setting::Setting;
 pub use statement::{Header, IgnoredWords, Statement};

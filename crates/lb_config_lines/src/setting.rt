@@ -1,9 +1,9 @@
 use lb_acl::KeySample;
 use lb_config_arguments::Endpoint;
 use lb_config_conditions::{AclDeclaration, BackendRule, CostRule, ServerRule};
-use lb_config_keywords::{Balance, HttpCheck, StatsSocket, Timeout};
+use lb_config_keywords::{HttpCheck, StatsSocket, Timeout};
 use lb_config_parameters::{ServerLine, ServerOptions, StickTable};
-use lb_types::Name;
+use lb_types::{Balance, Name};
 
 /// What a line sets. Names of backends, servers and ACLs are not yet looked up.
 #[derive(Debug, Drop)]

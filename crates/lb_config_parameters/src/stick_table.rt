@@ -7,15 +7,14 @@ ghost use Rattle.lb_config_parameters.specs.StickTables.{no_table, table_word, s
 use crate::table_draft::TableDraft;
 use lb_acl::TableType;
 use lb_config_arguments::{LineError, Words};
+use lb_types::TableSettings;
 use std::marker::Model;
 
 /// A line `stick-table`.
 #[derive(Debug, Drop)]
 pub struct StickTable {
     kind: TableType,
-    size: u32,
-    expire: Option<u32>,
-    is_nopurge: bool,
+    settings: TableSettings,
 }
 
 impl Model for StickTable {
@@ -25,12 +24,12 @@ impl Model for StickTable {
 
     ghost view = { λ table. record {
       kind = table.kind;
-      size = table.size;
-      expire = table.expire;
-      is_nopurge = table.is_nopurge;
+      size = table.settings.size;
+      expire = table.settings.expire;
+      is_nopurge = table.settings.no_purge;
     } };
 
-    ghost invariant = { λ table. IsTableSize table.size };
+    ghost invariant = { λ table. IsTableSize table.settings.size };
 }
 
 impl StickTable {
@@ -39,12 +38,12 @@ impl StickTable {
         requires greatest { size ≤ MAX_PINS }
         ensures { result ≡ record { kind = kind; size = size; expire = expire; is_nopurge = is_nopurge } }
     {
-        StickTable {
-            kind,
+        let settings = TableSettings {
             size,
             expire,
-            is_nopurge,
-        }
+            no_purge: is_nopurge,
+        };
+        StickTable { kind, settings }
     }
 
     /// The type of its keys.
@@ -54,27 +53,14 @@ impl StickTable {
         self.kind
     }
 
-    /// How many pins it may hold, 1 to 16777216.
-    pub fn size(&self) -> u32
-        ensures exact { result ≡ self.now.size }
-        ensures least { 1 ≤ result }
-        ensures greatest { result ≤ MAX_PINS }
+    /// What a backend's table is told of it: how many pins it may hold, 1 to 16777216; after how many milliseconds without use a
+    /// pin goes; and whether a full table keeps its pins, and takes no new one.
+    pub fn settings(&self) -> TableSettings
+        ensures size { result.size ≡ self.now.size }
+        ensures expire { result.expire ≡ self.now.expire }
+        ensures no_purge { result.no_purge ≡ self.now.is_nopurge }
     {
-        self.size
-    }
-
-    /// After how many milliseconds without use a pin goes; none where pins stay.
-    pub fn expire(&self) -> Option<u32>
-        ensures { result ≡ self.now.expire }
-    {
-        self.expire
-    }
-
-    /// Whether a full table keeps its pins, and takes no new one.
-    pub fn is_nopurge(&self) -> bool
-        ensures { result ≡ self.now.is_nopurge }
-    {
-        self.is_nopurge
+        self.settings
     }
 }
 

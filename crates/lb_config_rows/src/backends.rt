@@ -1,7 +1,8 @@
 use crate::web_farm::web_farm;
 use lb_config::{Config, read_config};
 use lb_desk_backend::backend_of;
-use lb_desk_model::{Backend, BackendServer, Balance};
+use lb_desk_model::{Backend, BackendServer};
+use lb_types::Balance;
 use server_state::AdminState::{Maint, Ready};
 use server_state::{AdminState, ServerSettings};
 use std::alloc::{AllocError, Global};

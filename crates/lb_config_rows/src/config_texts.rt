@@ -1,7 +1,7 @@
 use lb_acl::{Head, Version, designated, pin_cost};
 use lb_config::{Config, FindFault, read_config};
-use lb_config_lines::{Balance, SocketAddress};
-use lb_types::{Name, ServerId};
+use lb_config_lines::SocketAddress;
+use lb_types::{Balance, Name, ServerId};
 use std::alloc::Global;
 use std::net::Ipv4Addr;
 use std::process::Abort;

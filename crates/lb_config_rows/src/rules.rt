@@ -65,7 +65,7 @@ fn the_first_rule_that_applies_names_the_backend(rt: HostRuntime) -> Result<(), 
 /// Whether the rules have a table of this size, and a key of texts of at most so many bytes.
 fn is_table(rules: &BackRules, size: u32, key: Option<usize>) -> bool {
     let has_size = match rules.table() {
-        Some(table) => table.size() == size,
+        Some(table) => table.settings().size == size,
         None => false,
     };
     let has_key = match (rules.stick_on(), key) {

@@ -1,8 +1,9 @@
 use crate::sections::sections_of;
 use check_workers_rule::CheckRequest;
-use lb_config_lines::{Balance, SocketAddress};
+use lb_config_lines::SocketAddress;
 use lb_config_sections::{NumberedSetting, Sections};
 use lb_config_values::{Defaults, GlobalValues, ProxyValues, ServerConfig, Timeouts, read_servers};
+use lb_types::Balance;
 use server_state::{AdminState, CheckSettings, ServerSettings};
 use std::alloc::Global;
 use std::net::Ipv4Addr;

@@ -1,8 +1,8 @@
 use check_workers_rule::CheckRequest;
 use lb_acl::{Field, Head, KeyLen, TableType, Version, designated, pin_cost, pin_key};
 use lb_config::{BackendConfig, Config, read_config};
-use lb_config_lines::{Balance, SocketAddress};
-use lb_types::ServerId;
+use lb_config_lines::SocketAddress;
+use lb_types::{Balance, ServerId};
 use server_state::{AdminState, CheckSettings};
 use std::alloc::Global;
 use std::net::Ipv4Addr;
@@ -262,11 +262,12 @@ fn tables_keys_and_rules(rt: HostRuntime) -> Result<(), Fail> {
         let Some(table) = backend(&rt, &config, place).rules().table() else {
             panic!(&rt; "no table");
         };
+        let settings = table.settings();
         let found = (
             table.kind(),
-            table.size(),
-            table.expire(),
-            table.is_nopurge(),
+            settings.size,
+            settings.expire,
+            settings.no_purge,
         );
         assert_eq!(rt; found, (kind, size, Some(expire), is_nopurge));
     }

@@ -3,7 +3,7 @@ use Rattle.std.specs.Prelude.{ℕ, Bool, true, false, ◌||◌, List, Option, So
 use Rattle.std.specs.List.{filter_map, list_any, last_or}
 use Rattle.check_workers_rule.specs.CheckRequests.{CheckLine, check_line}
 use Rattle.lb_config_keywords.specs.declared.http_check.HttpCheck.{HttpCheck}
-use Rattle.lb_config_keywords.specs.declared.balance.Balance.{Balance}
+use Rattle.lb_types.specs.declared.balance.Balance.{Balance}
 use Rattle.lb_config_lines.specs.declared.setting.Setting.{Setting}
 use Rattle.lb_config_lines.specs.declared.setting.Setting.TheVariants as Set
 use Rattle.lb_config_keywords.specs.declared.second_word.Timeout.{Timeout}

@@ -1,11 +1,11 @@
 ghost use Rattle.std.specs.Prelude.{◌≡◌, unwrap_or};
-ghost use Rattle.lb_config_keywords.specs.declared.balance.Balance.TheVariants.{RoundRobin};
+ghost use Rattle.lb_types.specs.declared.balance.Balance.TheVariants.{RoundRobin};
 ghost use Rattle.lb_config_values.specs.Values.{no_values, values_behind, with_setting};
 
 use crate::Timeouts;
-use lb_config_lines::{Balance, Setting};
+use lb_config_lines::Setting;
 use lb_config_sections::NumberedSetting;
-use lb_types::Name;
+use lb_types::{Balance, Name};
 
 /// The single values that lines of a proxy's section, or of `defaults`, have said so far. `None` is what isn't said.
 #[derive(Clone, Copy, Debug)]

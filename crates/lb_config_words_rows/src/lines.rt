@@ -1,6 +1,7 @@
 use crate::texts::words_of;
 use lb_acl::{KeySample, Version};
-use lb_config_lines::{Balance, Section, Setting, SocketAddress, Statement, Timeout, read_line};
+use lb_config_lines::{Section, Setting, SocketAddress, Statement, Timeout, read_line};
+use lb_types::Balance;
 use std::alloc::Global;
 use std::test::Fail;
 

@@ -92,11 +92,12 @@ fn parameters_of_tables_stand_in_any_order_and_the_last_counts(
     for (text, wanted) in TABLES {
         let words = words_of(rt.alloc(), text)?;
         let read = read_stick_table(&mut Words::new(rt.alloc(), &words, None))?;
+        let settings = read.settings();
         let found = (
             key_bytes(read.kind()),
-            read.size(),
-            read.expire(),
-            read.is_nopurge(),
+            settings.size,
+            settings.expire,
+            settings.no_purge,
         );
         assert_eq!(rt; found, wanted, "{text}");
     }

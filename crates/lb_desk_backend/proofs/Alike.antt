@@ -6,8 +6,8 @@ use Rattle.lb_config.specs.Kept.{IsServers}
 use Rattle.lb_config_values.specs.ServerView.{ServerView}
 use Rattle.lb_desk_model.specs.Backends.{IsBackend, backend_of_parts}
 use Rattle.lb_desk_model.specs.declared.backend.BackendServer.{BackendServer}
-use Rattle.lb_desk_model.specs.declared.backend.TableSettings.{TableSettings}
-use Rattle.lb_desk_model.specs.declared.balance.Balance.{Balance}
+use Rattle.lb_types.specs.declared.table_settings.TableSettings.{TableSettings}
+use Rattle.lb_types.specs.declared.balance.Balance.{Balance}
 use Rattle.lb_desk_backend.specs.Configured.{ServerParts, configured_server, server_parts}
 
 abbrev pub AreAlike : List BackendServer → List ServerView → Type 0

@@ -8,8 +8,8 @@ use Rattle.server_state.specs.declared.settings.ServerSettings.{ServerSettings}
 use Rattle.lb_config_values.specs.ServerView.{CheckCounts, SettingsView, check_counts, settings_view}
 use Rattle.lb_desk_model.specs.Backends.{BackendParts}
 use Rattle.lb_desk_model.specs.declared.backend.BackendServer.{BackendServer}
-use Rattle.lb_desk_model.specs.declared.backend.TableSettings.{TableSettings}
-use Rattle.lb_desk_model.specs.declared.balance.Balance.{Balance}
+use Rattle.lb_types.specs.declared.table_settings.TableSettings.{TableSettings}
+use Rattle.lb_types.specs.declared.balance.Balance.{Balance}
 use Rattle.lb_desk_backend.specs.Configured.{OpensAsOneBackend, ServerParts, TableParts, server_parts, table_parts}
 
 -- a function that tells things apart tells lists and options of them apart

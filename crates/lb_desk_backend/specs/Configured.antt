@@ -3,21 +3,12 @@
 -- are no part of the machine.
 use Rattle.std.specs.Prelude.{◌≡◌, ℕ, Bool, List, Option, map}
 use Rattle.std.specs.Option.{option_map}
-use Rattle.lb_config_keywords.specs.declared.balance.Balance.{Balance as ConfiguredBalance}
-use Rattle.lb_config_keywords.specs.declared.balance.Balance.TheVariants as Configured
 use Rattle.lb_config_parameters.specs.TableViews.{StickTableView}
 use Rattle.lb_config_values.specs.ServerView.{ServerView, SettingsView, settings_view}
 use Rattle.lb_config.specs.ConfigViews.{BackendView}
 use Rattle.lb_desk_model.specs.declared.backend.BackendServer.{BackendServer}
-use Rattle.lb_desk_model.specs.declared.backend.TableSettings.{TableSettings}
-use Rattle.lb_desk_model.specs.declared.balance.Balance.{Balance}
-use Rattle.lb_desk_model.specs.declared.balance.Balance.TheVariants as Machine
+use Rattle.lb_types.specs.declared.table_settings.TableSettings.{TableSettings}
 use Rattle.lb_desk_model.specs.Backends.{BackendParts}
-
-abbrev pub balance_of : ConfiguredBalance → Balance
-balance_of Configured.RoundRobin = Machine.RoundRobin
-balance_of Configured.LeastConnections = Machine.LeastConnections
-balance_of Configured.First = Machine.First
 
 -- how many pins a table holds, after how many milliseconds without a use a pin may go, and whether a full table keeps its pins
 pub record TableParts : Type 0 where
@@ -47,7 +38,7 @@ configured_server server = record { name = server.name; settings = server.settin
 
 -- the backend is the configured one: it picks by the same balance, has the same table, and the same servers in the same order
 pub record IsBackendOf (config : BackendView) (backend : BackendParts) : Type 0 where
-  pub balance : backend.balance ≡ balance_of config.balance
+  pub balance : backend.balance ≡ config.balance
   pub all_backups : backend.all_backups ≡ config.all_backups
   pub table : option_map table_parts backend.table ≡ option_map configured_table config.rules.table
   pub servers : map server_parts backend.servers ≡ map configured_server config.servers

@@ -4,8 +4,8 @@ use Rattle.std.specs.Prelude.{All, filter, count_by, nat_le}
 use Rattle.std.specs.Option.{option_map_or, option_and_then}
 use Rattle.std.proofs.lemmas.Bool.{leb-true, leb-false, lt-leb}
 use Rattle.std.proofs.lemmas.List.Elements.{All-head, All-tail}
-use Rattle.lb_desk_model.specs.declared.backend.TableSettings.{TableSettings}
-use Rattle.lb_desk_model.specs.declared.table_pin.TablePin.{TablePin}
+use Rattle.lb_types.specs.declared.table_settings.TableSettings.{TableSettings}
+use Rattle.pin_set.specs.declared.table_pin.TablePin.{TablePin}
 use Rattle.lb_desk_seen.proofs.Placed.{filter-count}
 use Rattle.lb_desk_core.specs.Expiring.{is_older, is_due, AreRising, FirstStays, IsGone}
 

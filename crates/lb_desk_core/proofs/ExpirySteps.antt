@@ -10,7 +10,7 @@ use Rattle.pin_set.specs.declared.pin.Pin.{Pin}
 use Rattle.pin_set.specs.Views.{IsBelow, IsView}
 use Rattle.lb_desk_model.specs.declared.event.Event.TheVariants.{Expire}
 use Rattle.lb_desk_model.specs.declared.reply.Reply.TheVariants.{Expired}
-use Rattle.lb_desk_model.specs.declared.table_pin.TablePin.{TablePin}
+use Rattle.pin_set.specs.declared.table_pin.TablePin.{TablePin}
 use Rattle.lb_desk_model.specs.Seen.{Seen, Steps, named_server, view_seen}
 use Rattle.lb_desk_model.specs.Serves.{moment_of}
 use Rattle.lb_desk_model.specs.States.{State}

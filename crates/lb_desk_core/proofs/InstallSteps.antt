@@ -13,7 +13,7 @@ use Rattle.cert_check.specs.declared.fault.CheckFault.{CheckFault}
 use Rattle.lb_desk_model.specs.declared.event.Event.TheVariants.{Install}
 use Rattle.lb_desk_model.specs.declared.reply.Refusal.TheVariants.{Stale, Bad}
 use Rattle.lb_desk_model.specs.declared.reply.Reply.TheVariants.{Installed, Refused}
-use Rattle.lb_desk_model.specs.declared.backend.TableSettings.{TableSettings}
+use Rattle.lb_types.specs.declared.table_settings.TableSettings.{TableSettings}
 use Rattle.lb_desk_model.specs.Installs.{InstallsAt, JudgesAt, moved_to, with_places}
 use Rattle.lb_desk_model.specs.Seen.{Acts, Seen, Steps, seen, view_seen}
 use Rattle.lb_desk_model.specs.Serves.{load}

@@ -5,7 +5,7 @@ use Rattle.std.proofs.lemmas.List.Sums.{sum_by-cons}
 use Rattle.pin_set.specs.Assignments.{is_at}
 use Rattle.pin_set.specs.Views.{IsBelow}
 use Rattle.capacity_book.specs.Book.{BookView, pins_at}
-use Rattle.lb_desk_model.specs.declared.table_pin.TablePin.{TablePin}
+use Rattle.pin_set.specs.declared.table_pin.TablePin.{TablePin}
 use Rattle.lb_desk_model.specs.Serves.{load}
 use Rattle.pin_table.specs.Tables.{TableParts, with_pins}
 use Rattle.lb_desk_core.specs.Expiring.{AreCounted, ArePlaced, IsGone}

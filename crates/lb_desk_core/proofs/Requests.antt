@@ -10,14 +10,14 @@ use Rattle.pin_set.specs.declared.pin.PinId.{PinId}
 use Rattle.pin_set.specs.declared.pin_key.PinKey.{PinKey}
 use Rattle.pin_set.specs.Pins.{honoured}
 use Rattle.capacity_book.specs.Book.{BookView, pins_at}
-use Rattle.lb_desk_model.specs.declared.backend.TableSettings.{TableSettings}
+use Rattle.lb_types.specs.declared.table_settings.TableSettings.{TableSettings}
 use Rattle.lb_desk_model.specs.declared.event.Event.TheVariants.{Serve}
 use Rattle.lb_desk_model.specs.declared.event.Request.{Request}
 use Rattle.lb_desk_model.specs.declared.reply.Reply.TheVariants.{Served, Refused}
 use Rattle.lb_desk_model.specs.declared.reply.Refusal.TheVariants.{NoSuchServer, NoServer}
 use Rattle.lb_desk_model.specs.declared.reply.ServedAs.TheVariants.{Kept, Moved, Made, Loose}
 use Rattle.lb_desk_model.specs.declared.stand.Stand.{Stand}
-use Rattle.lb_desk_model.specs.declared.table_pin.TablePin.{TablePin}
+use Rattle.pin_set.specs.declared.table_pin.TablePin.{TablePin}
 use Rattle.lb_desk_model.specs.Picks.{picked}
 use Rattle.lb_desk_model.specs.Seen.{Seen, Acts, seen}
 use Rattle.lb_desk_model.specs.Serves.{AreServers, IsLoose, IsNew, KeepsPin, MovesPin, MakesPin, HasNoServer, after_serve, is_full, keeps_pins, load, loose_pick, name_of, new_pin, pin_name, pin_pick, staying, used_at, want_of}

@@ -11,10 +11,10 @@ use Rattle.pin_set.specs.declared.pin.PinId.{PinId}
 use Rattle.pin_set.specs.Views.{IsBelow}
 use Rattle.server_state.specs.Farm.{FarmView, capacity_of}
 use Rattle.capacity_book.specs.Book.{BookView, pins_at}
-use Rattle.lb_desk_model.specs.declared.backend.TableSettings.{TableSettings}
+use Rattle.lb_types.specs.declared.table_settings.TableSettings.{TableSettings}
 use Rattle.lb_desk_model.specs.declared.event.Request.{Request}
 use Rattle.lb_desk_model.specs.declared.stand.Stand.{Stand}
-use Rattle.lb_desk_model.specs.declared.table_pin.TablePin.{TablePin}
+use Rattle.pin_set.specs.declared.table_pin.TablePin.{TablePin}
 use Rattle.lb_desk_model.specs.Picks.{picked}
 use Rattle.lb_desk_model.specs.Seen.{Seen, seen}
 use Rattle.lb_desk_model.specs.Serves.{capacity_at, is_full, keeps_pins, load, may_hold, permitted_to, pin_pick, staying}

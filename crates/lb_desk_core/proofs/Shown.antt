@@ -3,8 +3,8 @@ use Rattle.std.proofs.Common.{◌≡◌, ℕ, Option, List, sym, ap}
 use Rattle.server_state.specs.Farm.{FarmView}
 use Rattle.capacity_book.specs.Book.{BookView}
 use Rattle.pin_table.specs.Tables.{TableParts, after_use}
-use Rattle.lb_desk_model.specs.declared.backend.TableSettings.{TableSettings}
-use Rattle.lb_desk_model.specs.declared.balance.Balance.{Balance}
+use Rattle.lb_types.specs.declared.table_settings.TableSettings.{TableSettings}
+use Rattle.lb_types.specs.declared.balance.Balance.{Balance}
 use Rattle.lb_desk_model.specs.declared.stand.Stand.{Stand}
 use Rattle.lb_desk_model.specs.Seen.{Seen}
 use Rattle.lb_desk_core.specs.Parts.{shown_of}

@@ -9,12 +9,12 @@ use Rattle.dual_cert_plan.specs.Sheets.{SheetParts, IsSheet}
 use Rattle.pin_set.specs.declared.view.ViewServer.{ViewServer}
 use Rattle.pin_set.specs.Views.{ViewParts, IsView}
 use Rattle.cert_check_law.specs.Sheets.{StandsFor}
-use Rattle.pin_groups.specs.declared.counted.PinCount.{PinCount}
+use Rattle.pin_set.specs.declared.pin_count.PinCount.{PinCount}
 use Rattle.pin_groups.specs.Counts.{AreGroupsOfCounts, AreOfSomeView, HasCounts}
 use Rattle.server_state.specs.Farm.{FarmView, capacity_of, usable}
 use Rattle.lb_desk_model.specs.declared.event.Event.TheVariants.{Snapshot}
 use Rattle.lb_desk_model.specs.declared.reply.Reply.TheVariants.{Sheet}
-use Rattle.lb_desk_model.specs.declared.table_pin.TablePin.{TablePin}
+use Rattle.pin_set.specs.declared.table_pin.TablePin.{TablePin}
 use Rattle.lb_desk_model.specs.Installs.{IsSheetAt}
 use Rattle.lb_desk_model.specs.Seen.{Seen, Steps, named_server, seen, view_seen}
 use Rattle.lb_desk_model.specs.States.{ServerState, State, seen_server, view_of}

@@ -4,9 +4,9 @@ ghost use Rattle.lb_desk_model.specs.Seen.{seen};
 ghost use Rattle.lb_desk_model.specs.States.{opening};
 
 use crate::parts::Parts;
-use lb_desk_model::{Backend, BackendServer, TableSettings};
+use lb_desk_model::{Backend, BackendServer};
 use lb_desk_servers::{Opening, open_servers};
-use lb_types::{Moment, Name};
+use lb_types::{Moment, Name, TableSettings};
 use pin_table::Table;
 use std::alloc::{AllocError, Global};
 use std::hash::BuildHasher;

@@ -2,8 +2,8 @@ ghost use Rattle.std.specs.Prelude.{◌≡◌, IfOk};
 ghost use Rattle.lb_desk_model.specs.Worn.{open_at};
 
 use crate::backend_core::Core;
-use lb_desk_model::TablePin;
 use lb_types::ServerId;
+use pin_set::TablePin;
 use std::alloc::{AllocError, Global};
 use std::hash::BuildHasher;
 

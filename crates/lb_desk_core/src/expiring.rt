@@ -12,8 +12,8 @@ use crate::backend_core::Core;
 use crate::events::count;
 use crate::parts::Parts;
 use capacity_book::Book;
-use lb_desk_model::{Event, Reply, TableSettings};
-use lb_types::{MAX_SERVERS, Moment, Place};
+use lb_desk_model::{Event, Reply};
+use lb_types::{MAX_SERVERS, Moment, Place, TableSettings};
 use pin_table::Table;
 use std::hash::BuildHasher;
 

@@ -1,6 +1,6 @@
 use capacity_book::Book;
-use lb_desk_model::{Balance, Stand, TableSettings};
-use lb_types::{Moment, Name};
+use lb_desk_model::Stand;
+use lb_types::{Balance, Moment, Name, TableSettings};
 use pin_table::Table;
 use server_state::Farm;
 use std::hash::BuildHasher;

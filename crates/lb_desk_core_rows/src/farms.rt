@@ -2,8 +2,8 @@
 ghost use Rattle.std.specs.Prelude.{◌≡◌, Ok, IfOk};
 ghost use Rattle.lb_types.specs.Names.{name_of};
 
-use lb_desk_model::{Backend, BackendServer, Balance, TableSettings};
-use lb_types::{Name, ServerId};
+use lb_desk_model::{Backend, BackendServer};
+use lb_types::{Balance, Name, ServerId, TableSettings};
 use server_state::{AdminState, CheckSettings, ServerSettings};
 use std::alloc::Global;
 use std::test::Fail;

@@ -10,11 +10,11 @@ use Rattle.cert_check_law.proofs.Views.{permitted_usable}
 use Rattle.server_state.specs.Server.{ServerView, is_main, is_spare}
 use Rattle.server_state.specs.Farm.{FarmView, usable_servers, main_servers, spare_servers, is_empty}
 use Rattle.server_state.proofs.Picked.{has-usable}
-use Rattle.lb_desk_model.specs.declared.balance.Balance.{Balance}
-use Rattle.lb_desk_model.specs.declared.balance.Balance.TheVariants.{RoundRobin, LeastConnections, First}
+use Rattle.lb_types.specs.declared.balance.Balance.{Balance}
+use Rattle.lb_types.specs.declared.balance.Balance.TheVariants.{RoundRobin, LeastConnections, First}
 use Rattle.lb_desk_model.specs.declared.event.Request.{Request}
 use Rattle.lb_desk_model.specs.declared.stand.Stand.{Stand}
-use Rattle.lb_desk_model.specs.declared.table_pin.TablePin.{TablePin}
+use Rattle.pin_set.specs.declared.table_pin.TablePin.{TablePin}
 use Rattle.lb_desk_model.specs.Picks.{Picked, picked, stand, balanced, next_stand, least_loaded, is_least, first_free, round_from, is_behind, is_server_behind, stands, numbers, has_room}
 use Rattle.lb_desk_model.specs.Serves.{want_of, permitted_to, may_hold, pick, pin_pick}
 use Rattle.lb_desk_model.specs.States.{ServerState, State, usable, farm_of, seen_server}

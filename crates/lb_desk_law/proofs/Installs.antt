@@ -17,7 +17,7 @@ use Rattle.lb_desk_model.specs.declared.event.Event.TheVariants.{Install}
 use Rattle.lb_desk_model.specs.declared.reply.Refusal.TheVariants.{Stale, Bad}
 use Rattle.lb_desk_model.specs.declared.reply.Reply.{Reply}
 use Rattle.lb_desk_model.specs.declared.reply.Reply.TheVariants.{Installed, Refused}
-use Rattle.lb_desk_model.specs.declared.table_pin.TablePin.{TablePin}
+use Rattle.pin_set.specs.declared.table_pin.TablePin.{TablePin}
 use Rattle.lb_desk_model.specs.Histories.{History}
 use Rattle.lb_desk_model.specs.Installs.{Judges, Installs, moved_to}
 use Rattle.lb_desk_model.specs.States.{State, view_of}

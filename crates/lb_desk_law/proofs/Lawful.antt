@@ -19,7 +19,7 @@ use Rattle.lb_desk_law.proofs.Accepted.{best_of_accepted}
 use Rattle.server_state.specs.declared.change.ChangeFault.TheVariants.{OutOfRange, NoSuchServer as NoServerFault}
 use Rattle.pin_set.specs.Views.{IsView, IsBelow, kind_of}
 use Rattle.server_state.specs.declared.checked.Checked.TheVariants.{Took, Ignored}
-use Rattle.lb_desk_model.specs.declared.backend.TableSettings.{TableSettings}
+use Rattle.lb_types.specs.declared.table_settings.TableSettings.{TableSettings}
 use Rattle.dual_cert_plan.specs.Plans.{PlanParts}
 use Rattle.server_state.specs.declared.change.Setting.{Setting}
 use Rattle.server_state.specs.declared.change.Setting.TheVariants.{Admin, Health, Weight, MaxConnections, MaxPins}
@@ -36,7 +36,7 @@ use Rattle.lb_desk_model.specs.declared.reply.Reply.{Reply}
 use Rattle.lb_desk_model.specs.declared.reply.Reply.TheVariants.{Served, Opened, Closed, Expired, Checked, Done, Sheet, Installed, Refused}
 use Rattle.lb_desk_model.specs.declared.reply.ServedAs.{ServedAs}
 use Rattle.lb_desk_model.specs.declared.reply.ServedAs.TheVariants.{Kept, Moved, Made, Loose}
-use Rattle.lb_desk_model.specs.declared.table_pin.TablePin.{TablePin}
+use Rattle.pin_set.specs.declared.table_pin.TablePin.{TablePin}
 use Rattle.lb_desk_model.specs.Backends.{BackendParts, IsBackend}
 use Rattle.lb_desk_model.specs.Histories.{History}
 use Rattle.lb_desk_model.specs.Serves.{Serves, is_full, staying, name_of, pin_name, want_of, used_at, new_pin, moment_of}

@@ -1,8 +1,8 @@
 -- Worked picks, which the definitions compute.
 use Rattle.std.specs.Prelude.{◌≡◌, ℕ, true, false, ◌==◌, Option, Some, None, [], ◌∷◌}
 use Rattle.server_state.specs.declared.settings.AdminState.TheVariants.{Ready}
-use Rattle.lb_desk_model.specs.declared.balance.Balance.{Balance}
-use Rattle.lb_desk_model.specs.declared.balance.Balance.TheVariants.{RoundRobin, LeastConnections, First}
+use Rattle.lb_types.specs.declared.balance.Balance.{Balance}
+use Rattle.lb_types.specs.declared.balance.Balance.TheVariants.{RoundRobin, LeastConnections, First}
 use Rattle.lb_desk_model.specs.declared.stand.Stand.{Stand}
 use Rattle.lb_desk_model.specs.Picks.{Picked, picked, stand, balanced}
 use Rattle.lb_desk_model.specs.States.{ServerState}

@@ -4,8 +4,8 @@ use Rattle.std.specs.Prelude.{◌≡◌, ◌≢◌, ◌≤◌, Bool, true, Optio
 use Rattle.lb_types.specs.declared.limits.TheConstants.{MAX_SERVERS}
 use Rattle.lb_types.specs.Names.{is_name}
 use Rattle.lb_desk_model.specs.declared.backend.BackendServer.{BackendServer}
-use Rattle.lb_desk_model.specs.declared.backend.TableSettings.{TableSettings}
-use Rattle.lb_desk_model.specs.declared.balance.Balance.{Balance}
+use Rattle.lb_types.specs.declared.table_settings.TableSettings.{TableSettings}
+use Rattle.lb_types.specs.declared.balance.Balance.{Balance}
 
 pub record BackendParts : Type 0 where
   pub balance : Balance

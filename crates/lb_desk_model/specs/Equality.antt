@@ -4,8 +4,8 @@ use Rattle.std.specs.Ordering.{on, eq_of_both}
 use Rattle.std.specs.Option.{option_eq}
 use Rattle.std.specs.Cmp.Lexicographic.{pointwise}
 use Rattle.std.proofs.Math.Bool.{beq}
-use Rattle.lb_desk_model.specs.contracts.balance.BalancePartialEq.TheImpl as balance_eq
-use Rattle.lb_desk_model.specs.contracts.backend.TableSettingsPartialEq.TheImpl as table_eq
+use Rattle.lb_types.specs.contracts.balance.BalancePartialEq.TheImpl as balance_eq
+use Rattle.lb_types.specs.contracts.table_settings.TableSettingsPartialEq.TheImpl as table_eq
 use Rattle.lb_desk_model.specs.contracts.backend.BackendServerPartialEq.TheImpl as server_eq
 use Rattle.lb_desk_model.specs.Backends.{BackendParts}
 

@@ -10,7 +10,7 @@ use Rattle.dual_cert_plan.specs.Sheets.{SheetParts, IsSheet}
 use Rattle.cert_check_law.specs.Sheets.{StandsFor}
 use Rattle.cert_check.specs.declared.fault.CheckFault.{CheckFault}
 use Rattle.cert_check.specs.Verdict.{verdict}
-use Rattle.lb_desk_model.specs.declared.table_pin.TablePin.{TablePin}
+use Rattle.pin_set.specs.declared.table_pin.TablePin.{TablePin}
 use Rattle.lb_desk_model.specs.States.{State, view_of}
 
 -- ---- at a view, where the table has this version

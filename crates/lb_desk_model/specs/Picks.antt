@@ -6,8 +6,8 @@
 use Rattle.std.specs.Prelude.{ℕ, ◌*◌, Bool, true, not, ◌&&◌, ◌||◌, ◌==◌, nat_lt, nat_le, Option, Some, None, List, ◌++◌, map, filter, length, slice_get}
 use Rattle.std.specs.List.{find, flat_map, enumerate_from, range_with_len, list_all}
 use Rattle.std.specs.Option.{option_map, option_map_or, option_or}
-use Rattle.lb_desk_model.specs.declared.balance.Balance.{Balance}
-use Rattle.lb_desk_model.specs.declared.balance.Balance.TheVariants.{RoundRobin, LeastConnections, First}
+use Rattle.lb_types.specs.declared.balance.Balance.{Balance}
+use Rattle.lb_types.specs.declared.balance.Balance.TheVariants.{RoundRobin, LeastConnections, First}
 use Rattle.lb_desk_model.specs.declared.stand.Stand.{Stand}
 use Rattle.lb_desk_model.specs.States.{ServerState}
 

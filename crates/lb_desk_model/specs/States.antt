@@ -14,10 +14,10 @@ use Rattle.server_state.specs.declared.settings.CheckSettings.{CheckSettings}
 use Rattle.server_state.specs.Server.{ServerView}
 use Rattle.server_state.specs.Farm.{FarmView}
 use Rattle.lb_desk_model.specs.declared.backend.BackendServer.{BackendServer}
-use Rattle.lb_desk_model.specs.declared.backend.TableSettings.{TableSettings}
-use Rattle.lb_desk_model.specs.declared.balance.Balance.{Balance}
+use Rattle.lb_types.specs.declared.table_settings.TableSettings.{TableSettings}
+use Rattle.lb_types.specs.declared.balance.Balance.{Balance}
 use Rattle.lb_desk_model.specs.declared.stand.Stand.{Stand}
-use Rattle.lb_desk_model.specs.declared.table_pin.TablePin.{TablePin}
+use Rattle.pin_set.specs.declared.table_pin.TablePin.{TablePin}
 use Rattle.lb_desk_model.specs.Backends.{BackendParts}
 
 -- what is known of a checked server: how its checks count, and the results since their base

@@ -7,7 +7,7 @@ use Rattle.lb_desk_model.specs.declared.event.Event.TheVariants.{Serve, Open, Cl
 use Rattle.lb_desk_model.specs.declared.reply.Refusal.TheVariants.{NoSuchServer, Full, NotServing, NotOpen, Stale, Bad, NoServer}
 use Rattle.lb_desk_model.specs.declared.reply.Reply.{Reply}
 use Rattle.lb_desk_model.specs.declared.reply.Reply.TheVariants.{Served, Opened, Closed, Expired, Checked, Done, Sheet, Installed, Refused}
-use Rattle.lb_desk_model.specs.declared.table_pin.TablePin.{TablePin}
+use Rattle.pin_set.specs.declared.table_pin.TablePin.{TablePin}
 use Rattle.lb_desk_model.specs.Picks.{connections_at, has_room}
 use Rattle.lb_desk_model.specs.Installs.{IsSheetOf, Judges, Installs}
 use Rattle.lb_desk_model.specs.Serves.{AreServers, Serves, HasNoServer, moment_of}

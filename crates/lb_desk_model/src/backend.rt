@@ -1,8 +1,4 @@
-ghost use Rattle.std.specs.Prelude.{◌≤◌};
-ghost use Rattle.lb_types.specs.declared.limits.TheConstants.{MAX_PINS};
-
-use crate::Balance;
-use lb_types::Name;
+use lb_types::{Balance, Name, TableSettings};
 use server_state::ServerSettings;
 use std::marker::Model;
 
@@ -11,19 +7,6 @@ use std::marker::Model;
 pub struct BackendServer {
     pub name: Name,
     pub settings: ServerSettings,
-}
-
-/// A backend's table of pins, as the configuration has it.
-#[derive(Clone, Copy, Debug, PartialEq, Eq)]
-pub struct TableSettings {
-    /// How many pins it holds, 1 to 16777216.
-    pub size: u32,
-    /// After how many milliseconds without a use a pin may go, if ever.
-    pub expire: Option<u32>,
-    /// Whether a full table keeps its pins, and lets no new one in.
-    pub no_purge: bool,
-    pub ghost size_from: { 1 ≤ size },
-    pub ghost size_to: { size ≤ MAX_PINS },
 }
 
 /// What the configuration says of a backend and no event changes, and the servers that it begins with.
@@ -102,8 +85,8 @@ impl PartialEq for Backend {
     ghost use Rattle.std.specs.Cmp.{partial_equiv_from_equiv};
     ghost use Rattle.std.specs.Cmp.Rules.{comparing};
     ghost use Rattle.std.proofs.Common.{rules};
-    ghost use Rattle.lb_desk_model.specs.contracts.balance.BalanceEq.TheImpl.Laws as balance_laws;
-    ghost use Rattle.lb_desk_model.specs.contracts.backend.TableSettingsEq.TheImpl.Laws as table_laws;
+    ghost use Rattle.lb_types.specs.contracts.balance.BalanceEq.TheImpl.Laws as balance_laws;
+    ghost use Rattle.lb_types.specs.contracts.table_settings.TableSettingsEq.TheImpl.Laws as table_laws;
     ghost use Rattle.lb_desk_model.specs.contracts.backend.BackendServerEq.TheImpl.Laws as server_laws;
     ghost use Rattle.lb_desk_model.specs.Equality.{equal_backends};
 
@@ -122,8 +105,8 @@ impl PartialEq for Backend {
 impl Eq for Backend {
     ghost use Rattle.std.specs.Cmp.Rules.{comparing};
     ghost use Rattle.std.proofs.Common.{rules};
-    ghost use Rattle.lb_desk_model.specs.contracts.balance.BalanceEq.TheImpl.Laws as balance_laws;
-    ghost use Rattle.lb_desk_model.specs.contracts.backend.TableSettingsEq.TheImpl.Laws as table_laws;
+    ghost use Rattle.lb_types.specs.contracts.balance.BalanceEq.TheImpl.Laws as balance_laws;
+    ghost use Rattle.lb_types.specs.contracts.table_settings.TableSettingsEq.TheImpl.Laws as table_laws;
     ghost use Rattle.lb_desk_model.specs.contracts.backend.BackendServerEq.TheImpl.Laws as server_laws;
 
     ghost laws = { Prim.search (comparing, balance_laws.laws-law, table_laws.laws-law, server_laws.laws-law, rules) depth 12 };

@@ -6,21 +6,17 @@
 #![tactic(auto)]
 
 mod backend;
-mod balance;
 mod entry;
 mod event;
 mod reply;
 mod rule_list;
 mod shared;
 mod stand;
-mod table_pin;
 
-pub use backend::{Backend, BackendServer, TableSettings};
-pub use balance::Balance;
+pub use backend::{Backend, BackendServer};
 pub use entry::Entry;
 pub use event::{Event, Request};
 pub use reply::{Refusal, Reply, ServedAs};
 pub use rule_list::RuleList;
 pub use shared::Shared;
 pub use stand::Stand;
-pub use table_pin::TablePin;

@@ -1,9 +1,9 @@
 //! Picks at farms of two servers, beside what a reader finds by the manual's words.
 
 use capacity_book::Book;
-use lb_desk_model::{Balance, Stand};
+use lb_desk_model::Stand;
 use lb_desk_pick::{Pick, loose_pick, pin_pick};
-use lb_types::{Place, ServerId};
+use lb_types::{Balance, Place, ServerId};
 use server_state::{AdminState, Farm, ServerSettings};
 use std::alloc::Global;
 use std::test::Fail;

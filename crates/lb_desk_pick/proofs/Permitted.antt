@@ -11,10 +11,10 @@ use Rattle.pin_set.specs.Pins.{permitted}
 use Rattle.cert_check_law.proofs.Views.{permitted_usable}
 use Rattle.server_state.specs.Farm.{FarmView, usable, set_of, capacity_of}
 use Rattle.capacity_book.specs.Book.{BookView, pins_at}
-use Rattle.lb_desk_model.specs.declared.balance.Balance.{Balance}
+use Rattle.lb_types.specs.declared.balance.Balance.{Balance}
 use Rattle.lb_desk_model.specs.declared.event.Request.{Request}
 use Rattle.lb_desk_model.specs.declared.stand.Stand.{Stand}
-use Rattle.lb_desk_model.specs.declared.table_pin.TablePin.{TablePin}
+use Rattle.pin_set.specs.declared.table_pin.TablePin.{TablePin}
 use Rattle.lb_desk_model.specs.Serves.{load, may_hold, may_take, is_full, staying, capacity_at}
 use Rattle.lb_desk_model.specs.States.{State, seen_server}
 use Rattle.lb_desk_pick.specs.Sights.{IsSeen, lost_place}

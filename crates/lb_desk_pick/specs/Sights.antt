@@ -5,7 +5,7 @@ use Rattle.std.specs.Prelude.{◌≡◌, ℕ, ◌<◌, Option, None, List, map, 
 use Rattle.std.specs.Option.{option_and_then}
 use Rattle.server_state.specs.Farm.{FarmView}
 use Rattle.capacity_book.specs.Book.{BookView, pins_at}
-use Rattle.lb_desk_model.specs.declared.balance.Balance.{Balance}
+use Rattle.lb_types.specs.declared.balance.Balance.{Balance}
 use Rattle.lb_desk_model.specs.declared.event.Request.{Request}
 use Rattle.lb_desk_model.specs.declared.stand.Stand.{Stand}
 use Rattle.lb_desk_model.specs.Serves.{is_full, load}

@@ -11,8 +11,8 @@ use crate::least::least_loaded;
 use crate::pick::Pick;
 use crate::round::next_stand;
 use capacity_book::Book;
-use lb_desk_model::{Balance, Stand};
-use lb_types::{ServerId, ServerSet};
+use lb_desk_model::Stand;
+use lb_types::{Balance, ServerId, ServerSet};
 use server_state::Farm;
 
 /// The candidate that the balance says, and the cursor after it. It looks at each server at most twice.

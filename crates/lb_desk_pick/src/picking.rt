@@ -9,8 +9,8 @@ use crate::candidates::with_room_for_a_pin;
 use crate::pick::Pick;
 use crate::servers::{first_in, set_of};
 use capacity_book::Book;
-use lb_desk_model::{Balance, Stand};
-use lb_types::{Place, ServerId, ServerSet};
+use lb_desk_model::Stand;
+use lb_types::{Balance, Place, ServerId, ServerSet};
 use pin_set::permitted;
 use server_state::Farm;
 

@@ -1,8 +1,7 @@
 ghost use Rattle.std.specs.Prelude.{◌≡◌, ◌≢◌, ◌↔◌, true, false, map, All, AllPairs, Contains, IsTrue};
 ghost use Rattle.std.specs.List.Sorted.{IsPermutation};
 
-use lb_desk_model::TablePin;
-use pin_set::{Pin, PinId, PinKey};
+use pin_set::{Pin, TablePin};
 
 /// Whether the pins are the same but for their order and their last uses. It walks the pins that stand after for each of
 /// those that stood before, whose names are distinct.
@@ -37,21 +36,5 @@ fn stands_among(pin: &Pin, pins: &[TablePin]) -> bool
 fn same_pin(a: &Pin, b: &Pin) -> bool
     ensures { IsTrue result ↔ (a.now ≡ b.now) }
 {
-    same_name(&a.id, &b.id) && a.place == b.place && a.cost == b.cost
-}
-
-fn same_name(a: &PinId, b: &PinId) -> bool
-    ensures { IsTrue result ↔ (a.now ≡ b.now) }
-{
-    same_key(&a.key, &b.key) && a.want == b.want
-}
-
-fn same_key(a: &PinKey, b: &PinKey) -> bool
-    ensures { IsTrue result ↔ (a.now ≡ b.now) }
-{
-    match (a, b) {
-        (PinKey::Ipv4(a), PinKey::Ipv4(b)) => a == b,
-        (PinKey::Text(a), PinKey::Text(b)) => a.as_bytes() == b.as_bytes(),
-        (PinKey::Ipv4(_), PinKey::Text(_)) | (PinKey::Text(_), PinKey::Ipv4(_)) => false,
-    }
+    a.id.is_same(&b.id) && a.place == b.place && a.cost == b.cost
 }

@@ -1,7 +1,7 @@
 -- Pins that are put at their places, one after another.
 use Rattle.std.proofs.Common.{◌≡◌, ℕ, ◌+◌, ◌<◌, zero, suc, Option, List, [], ◌∷◌, ◌++◌, map, take, drop, length, slice_index_or, slice_set, refl, ap, arith, add-one}
 use Rattle.std.specs.List.{zip}
-use Rattle.lb_desk_model.specs.declared.table_pin.TablePin.{TablePin}
+use Rattle.pin_set.specs.declared.table_pin.TablePin.{TablePin}
 use Rattle.lb_desk_model.specs.Installs.{moved_to}
 
 abbrev pub placed : List TablePin → List (Option ℕ) → List TablePin

@@ -3,10 +3,10 @@ ghost use Rattle.lb_types.specs.Servers.{has};
 ghost use Rattle.lb_desk_model.specs.Serves.{permitted_to, may_hold, pick, pin_pick, loose_pick};
 
 use crate::state::MachineState;
-use lb_desk_model::{Request, TablePin};
+use lb_desk_model::Request;
 use lb_desk_plain_picks::{Pick, balanced, first_in, set_of, taken_in_place, with_room_for_a_pin};
 use lb_types::ServerSet;
-use pin_set::permitted;
+use pin_set::{TablePin, permitted};
 use std::alloc::{AllocError, Global};
 
 impl MachineState {

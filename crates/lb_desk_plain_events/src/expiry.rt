@@ -3,8 +3,9 @@ ghost use Rattle.std.specs.Option.{option_and_then};
 ghost use Rattle.lb_desk_model.specs.Steps.{Does};
 
 use crate::state::{MachineState, copied_pin};
-use lb_desk_model::{Event, Reply, TablePin};
+use lb_desk_model::{Event, Reply};
 use lb_types::Moment;
+use pin_set::TablePin;
 use std::alloc::{AllocError, Global};
 
 impl MachineState {

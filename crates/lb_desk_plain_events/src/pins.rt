@@ -1,9 +1,9 @@
 ghost use Rattle.std.specs.Prelude.{◌≡◌, ◌+◌, ◌<◌, ◌∷◌, ◌++◌, [], if◌then◌else◌, length, take, drop, slice_index_or, OnOk};
 ghost use Rattle.lb_desk_model.specs.Serves.{used_at};
-ghost use Rattle.lb_desk_model.specs.declared.table_pin.TablePin.{TablePin as AnyPin};
+ghost use Rattle.pin_set.specs.declared.table_pin.TablePin.{TablePin as AnyPin};
 
-use lb_desk_model::TablePin;
 use lb_types::{Moment, ServerId};
+use pin_set::TablePin;
 use std::alloc::AllocError;
 
 /// Puts the pin at this place, used now, behind the others.

@@ -8,11 +8,11 @@ ghost use Rattle.lb_desk_model.specs.Steps.{Does};
 use crate::state::{MachineState, copied_pin};
 use cert_check::check;
 use dual_cert_plan::{Plan, Sheet};
-use lb_desk_model::{Event, Refusal, Reply, TablePin};
+use lb_desk_model::{Event, Refusal, Reply};
 use lb_desk_plain_picks::Server;
 use lb_types::Place;
 use pin_groups::{group, spread};
-use pin_set::{Pin, View, ViewServer};
+use pin_set::{Pin, TablePin, View, ViewServer};
 use std::alloc::{AllocError, Global};
 
 impl MachineState {

@@ -3,15 +3,15 @@ ghost use Rattle.pin_set.specs.Pins.{honoured};
 ghost use Rattle.lb_desk_model.specs.States.{usable, serving};
 ghost use Rattle.lb_desk_model.specs.Serves.{AreServers, IsLoose, MakesPin, name_of, want_of, moment_of, is_full, keeps_pins, staying};
 ghost use Rattle.lb_desk_model.specs.Steps.{Does};
-ghost use Rattle.lb_desk_model.specs.declared.table_pin.TablePin.{TablePin as AnyPin};
+ghost use Rattle.pin_set.specs.declared.table_pin.TablePin.{TablePin as AnyPin};
 
 use crate::names::position;
 use crate::pins::{drop_first_if, put_last};
 use crate::state::MachineState;
-use lb_desk_model::{Event, Refusal, Reply, Request, ServedAs, TablePin};
+use lb_desk_model::{Event, Refusal, Reply, Request, ServedAs};
 use lb_desk_plain_picks::{Pick, are_below, set_of};
 use lb_types::{Moment, ServerId};
-use pin_set::{Pin, PinId, PinKey, honoured};
+use pin_set::{Pin, PinId, PinKey, TablePin, honoured};
 use std::alloc::{AllocError, Global};
 
 impl MachineState {

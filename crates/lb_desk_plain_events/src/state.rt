@@ -1,9 +1,10 @@
 ghost use Rattle.std.specs.Prelude.{◌≡◌, ◌<◌, ◌≤◌, ◌+◌, ◌^◌, length, map, IfOk};
 ghost use Rattle.lb_desk_model.specs.States.{server_at_start};
 
-use lb_desk_model::{Backend, BackendServer, Balance, Stand, TablePin, TableSettings};
+use lb_desk_model::{Backend, BackendServer, Stand};
 use lb_desk_plain_picks::{Server, usable_among};
-use lb_types::{Moment, ServerId, ServerSet};
+use lb_types::{Balance, Moment, ServerId, ServerSet, TableSettings};
+use pin_set::TablePin;
 use std::alloc::{AllocError, Global};
 use std::marker::Model;
 

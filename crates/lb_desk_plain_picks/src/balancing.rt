@@ -8,8 +8,8 @@ use crate::numbers::numbers;
 use crate::pick::Pick;
 use crate::picks::{first_free, least_loaded, next_stand, stands};
 use crate::server::Server;
-use lb_desk_model::{Balance, Stand};
-use lb_types::{ServerId, ServerSet};
+use lb_desk_model::Stand;
+use lb_types::{Balance, ServerId, ServerSet};
 use std::alloc::{AllocError, Global};
 
 /// The candidate that the balance says, and the cursor after it. There is none where no candidate has a place to be

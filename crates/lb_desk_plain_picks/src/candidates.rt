@@ -5,8 +5,8 @@ ghost use Rattle.pin_set.specs.Assignments.{is_at};
 ghost use Rattle.lb_desk_model.specs.Serves.{load, capacity_at};
 
 use crate::server::Server;
-use lb_desk_model::TablePin;
 use lb_types::{ServerId, ServerSet};
+use pin_set::TablePin;
 
 /// The permitted servers that hold fewer of these pins than their capacity. It walks the pins once for each server.
 pub fn with_room_for_a_pin(servers: &[Server], permitted: ServerSet, pins: &[TablePin]) -> ServerSet

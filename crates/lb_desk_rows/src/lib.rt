@@ -1,7 +1,7 @@
 //! Worked rows of the machine: lists of events, each with the reply that a backend owes it, and the version after each.
 //!
-//! Tests alone, of the plain machine, of what it is made of, and of the running desk, which is played the same rows. Start at `row`, which says what a row is and how it is
-//! played.
+//! Tests alone, of the plain machine and of the running desk, which is played the same rows. Start at `row`, which says what a row is
+//! and how it is played.
 #![tactic(auto)]
 
 #[cfg(test)]
@@ -16,8 +16,6 @@ mod farms;
 mod installing;
 #[cfg(test)]
 mod model;
-#[cfg(test)]
-mod picks;
 #[cfg(test)]
 mod row;
 #[cfg(test)]

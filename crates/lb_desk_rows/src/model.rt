@@ -3,10 +3,9 @@
 use cert_check::CheckFault;
 use dual_cert_plan::Plan;
 use lb_desk_model::{
-    Backend, BackendServer, Balance, Entry, Event, Refusal, Reply, Request, RuleList, ServedAs,
-    Shared, TableSettings,
+    Backend, BackendServer, Entry, Event, Refusal, Reply, Request, RuleList, ServedAs, Shared,
 };
-use lb_types::{Moment, Name, ServerId};
+use lb_types::{Balance, Moment, Name, ServerId, TableSettings};
 use pin_set::{KeyText, PinKey};
 use server_state::{AdminState, ServerSettings};
 use std::alloc::Global;

@@ -1,8 +1,9 @@
 use crate::Seat;
-use lb_desk_model::{Event, Reply, TablePin};
+use lb_desk_model::{Event, Reply};
 use lb_desk_ports::Refused;
 use lb_desk_shared::Naming;
 use lb_desk_steer::{JournalCopy, Steer};
+use pin_set::TablePin;
 use server_state::Change;
 use std::alloc::{AllocError, Global};
 use std::hash::BuildHasher;

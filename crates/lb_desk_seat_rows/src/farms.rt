@@ -2,8 +2,8 @@
 ghost use Rattle.std.specs.Prelude.{◌≡◌, Ok, IfOk};
 ghost use Rattle.lb_types.specs.Names.{name_of};
 
-use lb_desk_model::{Backend, BackendServer, Balance, Request, RuleList, TableSettings};
-use lb_types::{Moment, Name, ServerId};
+use lb_desk_model::{Backend, BackendServer, Request, RuleList};
+use lb_types::{Balance, Moment, Name, ServerId, TableSettings};
 use pin_set::{KeyText, PinKey};
 use server_state::{AdminState, CheckSettings, ServerSettings};
 use std::alloc::{AllocError, Global};

@@ -11,7 +11,7 @@ use Rattle.pin_set.specs.Views.{ViewParts, view_of_parts}
 use Rattle.server_state.specs.declared.change.Setting.TheVariants.{Admin, Health, Weight, MaxConnections, MaxPins}
 use Rattle.server_state.specs.Farm.{FarmView}
 use Rattle.server_state.specs.Server.{ServerView}
-use Rattle.lb_desk_model.specs.declared.table_pin.TablePin.{TablePin}
+use Rattle.pin_set.specs.declared.table_pin.TablePin.{TablePin}
 use Rattle.lb_desk_model.specs.States.{Checks, ServerState, State, SameView, farm_of, health_of, seen_server, usable, view_of, view_server, with_server}
 use Rattle.lb_desk_model.specs.Servers.{rewarmed, forced_to, leaves_maint}
 use Rattle.lb_desk_model.specs.Seen.{Seen, named_server, seen, view_seen}

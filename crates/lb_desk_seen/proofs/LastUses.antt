@@ -16,7 +16,7 @@ use Rattle.lb_desk_model.specs.declared.reply.Reply.{Reply}
 use Rattle.lb_desk_model.specs.declared.reply.Reply.TheVariants.{Served, Opened, Closed, Expired, Checked, Done, Sheet, Installed, Refused}
 use Rattle.lb_desk_model.specs.declared.reply.ServedAs.{ServedAs}
 use Rattle.lb_desk_model.specs.declared.reply.ServedAs.TheVariants.{Kept, Moved, Made, Loose}
-use Rattle.lb_desk_model.specs.declared.table_pin.TablePin.{TablePin}
+use Rattle.pin_set.specs.declared.table_pin.TablePin.{TablePin}
 use Rattle.lb_desk_model.specs.Histories.{History}
 use Rattle.lb_desk_model.specs.Installs.{moved_to}
 use Rattle.lb_desk_model.specs.Serves.{Serves, is_full, staying, moment_of, new_pin, used_at}

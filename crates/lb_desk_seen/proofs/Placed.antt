@@ -13,7 +13,7 @@ use Rattle.pin_set.specs.declared.pin.Pin.{Pin}
 use Rattle.pin_set.specs.declared.pin.PinId.{PinId}
 use Rattle.pin_set.specs.Assignments.{moved}
 use Rattle.pin_set.specs.Views.{kind_of}
-use Rattle.lb_desk_model.specs.declared.table_pin.TablePin.{TablePin}
+use Rattle.pin_set.specs.declared.table_pin.TablePin.{TablePin}
 use Rattle.lb_desk_model.specs.Installs.{moved_to}
 use Rattle.lb_desk_model.specs.Serves.{IsNew}
 use Rattle.lb_desk_law.proofs.Apart.{Apart, all_moved}

@@ -12,7 +12,7 @@ use Rattle.server_state.specs.Farm.{FarmView, usable_servers, main_servers, spar
 use Rattle.server_state.proofs.Picked.{has-usable}
 use Rattle.lb_desk_model.specs.declared.event.Request.{Request}
 use Rattle.lb_desk_model.specs.declared.stand.Stand.{Stand}
-use Rattle.lb_desk_model.specs.declared.table_pin.TablePin.{TablePin}
+use Rattle.pin_set.specs.declared.table_pin.TablePin.{TablePin}
 use Rattle.lb_desk_model.specs.Picks.{picked}
 use Rattle.lb_desk_model.specs.Serves.{want_of, permitted_to, may_hold, pin_pick}
 use Rattle.lb_desk_model.specs.States.{State, farm_of, serving, usable}

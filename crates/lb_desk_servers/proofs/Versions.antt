@@ -8,7 +8,7 @@ use Rattle.server_state.specs.Farm.{FarmView}
 use Rattle.server_state.specs.Farm.{usable as usable_of}
 use Rattle.lb_desk_model.specs.declared.event.Event.{Event}
 use Rattle.lb_desk_model.specs.declared.reply.Reply.{Reply}
-use Rattle.lb_desk_model.specs.declared.table_pin.TablePin.{TablePin}
+use Rattle.pin_set.specs.declared.table_pin.TablePin.{TablePin}
 use Rattle.lb_desk_model.specs.Seen.{Seen, Acts, Next, seen}
 use Rattle.lb_desk_model.specs.States.{State, SameView, farm_of, usable, view_of, view_server}
 use Rattle.lb_desk_model.specs.Steps.{Does}

@@ -1,8 +1,8 @@
 -- The desk of a backend as many threads use it. Its history is the list of all entries so far. Our own words.
 use Rattle.std.specs.Prelude.{◌≡◌, ℕ, false, None, List, []}
-use Rattle.lb_desk_model.specs.declared.balance.Balance.TheVariants.{RoundRobin}
+use Rattle.lb_types.specs.declared.balance.Balance.TheVariants.{RoundRobin}
 use Rattle.lb_desk_model.specs.declared.entry.Entry.{Entry}
-use Rattle.lb_desk_model.specs.declared.table_pin.TablePin.{TablePin}
+use Rattle.pin_set.specs.declared.table_pin.TablePin.{TablePin}
 use Rattle.lb_desk_model.specs.Backends.{BackendParts}
 use Rattle.lb_desk_step.specs.Desk.{DeskView, StandsAt}
 use Rattle.lb_desk_tie.specs.Receipts.{KeeperView}

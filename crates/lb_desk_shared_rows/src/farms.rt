@@ -2,11 +2,11 @@
 ghost use Rattle.std.specs.Prelude.{◌≡◌, Ok, IfOk};
 ghost use Rattle.lb_types.specs.Names.{name_of};
 
-use lb_desk_model::{Backend, BackendServer, Balance, Entry, Request, RuleList, TableSettings};
+use lb_desk_model::{Backend, BackendServer, Entry, Request, RuleList};
 use lb_desk_shared::{Naming, SharedDesk};
 use lb_desk_step::Desk;
 use lb_desk_tie::Opened;
-use lb_types::{Moment, Name};
+use lb_types::{Balance, Moment, Name, TableSettings};
 use pin_set::{KeyText, PinKey};
 use server_state::{AdminState, ServerSettings};
 use std::alloc::{AllocError, Global};

@@ -3,8 +3,9 @@ ghost use Rattle.lb_desk_ports.specs.Calls.{after_call};
 ghost use Rattle.lb_desk_steer.specs.Steering.{commanding_entries};
 
 use crate::JournalCopy;
-use lb_desk_model::{Reply, TablePin};
+use lb_desk_model::Reply;
 use lb_desk_ports::{Mover, Refused};
+use pin_set::TablePin;
 use server_state::Change;
 use std::alloc::{AllocError, Global};
 

@@ -49,6 +49,6 @@ pub(crate) fn table_of(backend: &BackendConfig) -> Option<NamedTable>
     let table = backend.rules().table()?;
     Some(NamedTable {
         key_type: table.kind(),
-        size: table.size(),
+        size: table.settings().size,
     })
 }

@@ -2,6 +2,7 @@
 
 use crate::broken::Broken;
 use lb_cli::{JobError, check, plan, plan_tables, sheet_for, verify, verify_for};
+use lb_types_counted::Counted;
 use std::io::ErrorKind;
 use std::test::Fail;
 
@@ -14,9 +15,10 @@ const BREAKS: [(ErrorKind, JobError); 2] = [
 #[test]
 fn a_file_that_breaks_can_not_be_read(rt: HostRuntime) -> Result<(), Fail> {
     let mut text = b"stickysheet 1\nversion 0\nend\n".as_slice();
-    let sheet = sheet_for(rt.alloc(), &mut text, &mut Vec::new(rt.alloc()))?.ok_or("a sheet")?;
+    let mut none = Counted::new(Vec::new(rt.alloc()));
+    let sheet = sheet_for(rt.alloc(), &mut text, &mut none)?.ok_or("a sheet")?;
     for (kind, error) in BREAKS {
-        let mut out = Vec::new(rt.alloc());
+        let mut out = Counted::new(Vec::new(rt.alloc()));
         let told = [
             verify(rt.alloc(), &mut Broken { kind }, &mut out).err(),
             plan(rt.alloc(), &mut Broken { kind }, &mut out).err(),
@@ -26,7 +28,7 @@ fn a_file_that_breaks_can_not_be_read(rt: HostRuntime) -> Result<(), Fail> {
             verify_for(rt.alloc(), &sheet, &mut Broken { kind }, &mut out).err(),
         ];
         assert_eq!(rt; told, [Some(error); 6]);
-        assert!(rt; out.is_empty());
+        assert!(rt; out.into_inner().is_empty());
     }
     Ok(())
 }

@@ -17,7 +17,7 @@ use Rattle.pin_set.specs.Views.{ViewParts, IsView, kind_of, kinds_of}
 use Rattle.pin_set.specs.Rows.{AreGroupsOf, count_in}
 use Rattle.cert_check_law.proofs.Agreeing.{same_kind_is, length-ones}
 use Rattle.cert_check_law.proofs.Weights.{sum_by-same, sum_by-weights}
-use Rattle.pin_groups.specs.declared.counted.PinCount.{PinCount}
+use Rattle.pin_set.specs.declared.pin_count.PinCount.{PinCount}
 use Rattle.pin_groups.specs.Counts.{AreGroupsOfCounts, HasCounts, OneSheetForAView, counted_kind}
 use Rattle.pin_groups.specs.Rising.{Before, AreRising}
 

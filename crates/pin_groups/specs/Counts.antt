@@ -10,7 +10,7 @@ use Rattle.pin_set.specs.Pins.{permitted}
 use Rattle.pin_set.specs.Rows.{count_in}
 use Rattle.pin_set.specs.Views.{ViewParts, IsView}
 use Rattle.cert_check_law.specs.Sheets.{StandsFor}
-use Rattle.pin_groups.specs.declared.counted.PinCount.{PinCount}
+use Rattle.pin_set.specs.declared.pin_count.PinCount.{PinCount}
 
 -- how many of the pins have this place, want these servers and have this cost
 abbrev pub pins_with : List Pin → Option ℕ → ℕ → ℕ → ℕ

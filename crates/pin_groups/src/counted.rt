@@ -9,20 +9,10 @@ ghost use Rattle.pin_groups.specs.Rising.{AreRising};
 use crate::listed::listed_servers;
 use crate::rising::put;
 use dual_cert_plan::Sheet;
-use lb_types::{Place, ServerSet};
+use lb_types::ServerSet;
 use lb_types_pins::{Group, PinKind};
-use pin_set::{ViewServer, permitted};
+use pin_set::{PinCount, ViewServer, permitted};
 use std::alloc::{AllocError, Global};
-
-/// How many pins have this place, want these servers and cost this much to move.
-#[derive(Clone, Copy, Debug, PartialEq, Eq, Hash)]
-pub struct PinCount {
-    pub place: Place,
-    pub want: ServerSet,
-    /// 1 to 1000.
-    pub cost: u16,
-    pub count: u64,
-}
 
 /// The sheet of a view that is known by its counts: counts whose permitted sets are equal make one group.
 ///

@@ -11,6 +11,6 @@ mod listed;
 mod rising;
 mod spreading;
 
-pub use counted::{PinCount, one_sheet_for_a_view, sheet_of};
+pub use counted::{one_sheet_for_a_view, sheet_of};
 pub use grouping::group;
 pub use spreading::spread;

@@ -19,7 +19,7 @@ use Rattle.pin_set.specs.Assignments.{is_at, load as load_of, moved}
 use Rattle.pin_set.specs.Costs.{is_moved}
 use Rattle.pin_set.specs.Rows.{rows_load}
 use Rattle.pin_set.specs.Views.{IsView, kind_of, kinds_of}
-use Rattle.lb_desk_model.specs.declared.table_pin.TablePin.{TablePin}
+use Rattle.pin_set.specs.declared.table_pin.TablePin.{TablePin}
 use Rattle.lb_desk_model.specs.Installs.{moved_to as at_place}
 use Rattle.lb_desk_model.specs.Serves.{load}
 use Rattle.lb_desk_model.specs.States.{SameView}

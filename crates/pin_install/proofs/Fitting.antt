@@ -16,11 +16,11 @@ use Rattle.pin_set.specs.declared.view.ViewServer.{ViewServer}
 use Rattle.pin_set.specs.Pins.{permitted}
 use Rattle.pin_set.specs.Rows.{Agrees, count_in, sent}
 use Rattle.pin_set.specs.Views.{IsView, kind_of, kinds_of}
-use Rattle.pin_groups.specs.declared.counted.PinCount.{PinCount}
+use Rattle.pin_set.specs.declared.pin_count.PinCount.{PinCount}
 use Rattle.pin_groups.specs.Counts.{AreGroupsOfCounts, HasCounts, AreOfSomeView, counted_kind, counted_with, pins_with}
 use Rattle.pin_moves.specs.declared.a_move.Move.{Move}
 use Rattle.pin_moves.specs.Moves.{counted_pins, moved_to, moved_with}
-use Rattle.lb_desk_model.specs.declared.table_pin.TablePin.{TablePin}
+use Rattle.pin_set.specs.declared.table_pin.TablePin.{TablePin}
 use Rattle.pin_table.specs.Kinds.{ArePinCounts}
 use Rattle.pin_table.specs.Placed.{AreMovesOf, ArePlaced, pins_in}
 use Rattle.pin_table.specs.Tables.{TableParts}

@@ -11,7 +11,7 @@ use Rattle.lb_types_pins.proofs.Order.{same_kind-refl, kind_before-trans}
 use Rattle.dual_cert_plan.specs.Plans.{groups_of, pins_in_rows}
 use Rattle.dual_cert_plan.proofs.OwnSheet.{pins-groups_of}
 use Rattle.pin_set.specs.Rows.{is_move, sent}
-use Rattle.pin_groups.specs.declared.counted.PinCount.{PinCount}
+use Rattle.pin_set.specs.declared.pin_count.PinCount.{PinCount}
 use Rattle.pin_groups.specs.Counts.{AreGroupsOfCounts, counted_kind, counted_with}
 use Rattle.pin_moves.specs.declared.a_move.Move.{Move}
 use Rattle.pin_moves.specs.Leftovers.{AreInOrder, GoesBehind}

@@ -4,7 +4,7 @@ use Rattle.lb_types_pins.specs.declared.kind.PinKind.{PinKind}
 use Rattle.lb_types_pins.specs.Kinds.{same_place, same_kind, place_before, kind_before}
 use Rattle.pin_set.specs.Pins.{permitted}
 use Rattle.pin_set.specs.Rows.{is_move}
-use Rattle.pin_groups.specs.declared.counted.PinCount.{PinCount}
+use Rattle.pin_set.specs.declared.pin_count.PinCount.{PinCount}
 use Rattle.pin_moves.specs.declared.a_move.Move.{Move}
 
 -- place, wanted servers and cost: a kind that has the wanted servers where a plan's kind has the permitted ones

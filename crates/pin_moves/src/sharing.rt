@@ -13,8 +13,7 @@ use crate::Move;
 use dual_cert_plan::Plan;
 use lb_types::{Place, ServerSet};
 use lb_types_pins::{PinKind, Row};
-use pin_groups::PinCount;
-use pin_set::permitted;
+use pin_set::{PinCount, permitted};
 use std::alloc::{AllocError, Global};
 
 /// Moves of the counted pins that send as many of each kind to each place as the plan says, in strictly rising order by place,

@@ -10,7 +10,7 @@ use Rattle.lb_types_pins.specs.Kinds.{same_kind}
 use Rattle.lb_types_pins.proofs.Order.{same_kind-true}
 use Rattle.dual_cert_plan.specs.Plans.{groups_of, pins_in_rows}
 use Rattle.dual_cert_plan.proofs.OwnSheet.{pins-groups_of}
-use Rattle.pin_groups.specs.declared.counted.PinCount.{PinCount}
+use Rattle.pin_set.specs.declared.pin_count.PinCount.{PinCount}
 use Rattle.pin_set.specs.declared.pin.Pin.{Pin}
 use Rattle.pin_groups.specs.Counts.{AreGroupsOfCounts, counted_kind, counted_with, pins_with}
 use Rattle.pin_moves.specs.Moves.{counted_pins, pins_of}

@@ -9,9 +9,8 @@ ghost use Rattle.pin_moves.specs.Moves.{AreRisingCounts, counted_pins, move_befo
 use dual_cert_plan::Plan;
 use lb_types::{Place, ServerSet};
 use lb_types_pins::{PinKind, Row};
-use pin_groups::PinCount;
 use pin_moves::{Move, Moving, moves_of};
-use pin_set::permitted;
+use pin_set::{PinCount, permitted};
 use std::alloc::{AllocError, Global};
 
 /// The moves of a plan, where the counts rise, none is 0, and the plan is one for them; none where not.

@@ -4,9 +4,9 @@ use crate::{checked_moves, checked_sheet, next_place};
 use dual_cert::read_plan;
 use lb_types::{Place, ServerId, ServerSet};
 use lb_types_pins::{Group, PinKind};
-use pin_groups::PinCount;
 use pin_groups_spread::{PlainPin, numbered_view};
 use pin_moves::{Move, Moving};
+use pin_set::PinCount;
 use std::process::Abort;
 use std::test::Fail;
 

@@ -2,8 +2,8 @@ ghost use Rattle.std.specs.Prelude.{◌≡◌, ℕ, ◌^◌, ◌≤◌, IsTrue, 
 ghost use Rattle.pin_groups.specs.Counts.{AreGroupsOfCounts, counted_with, pins_with};
 
 use dual_cert_plan::Sheet;
-use pin_groups::{PinCount, sheet_of};
-use pin_set::{Pin, View};
+use pin_groups::sheet_of;
+use pin_set::{Pin, PinCount, View};
 use std::alloc::{AllocError, Global};
 
 /// The sheet that counts make, where they count the view's pins; none where not. `version` is at most 2^63.

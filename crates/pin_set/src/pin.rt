@@ -1,3 +1,5 @@
+ghost use Rattle.std.specs.Prelude.{◌≡◌, ◌↔◌, IsTrue};
+
 use crate::PinKey;
 use lb_types::{Place, ServerSet};
 
@@ -7,6 +9,15 @@ pub struct PinId {
     pub key: PinKey,
     /// The servers that the matching `use-server` rules named when the pin was made.
     pub want: ServerSet,
+}
+
+impl PinId {
+    /// Whether the other name is this one. It is what `==` says, as `specs/Names.antt` has it.
+    pub fn is_same(&self, other: &PinId) -> bool
+        ensures { IsTrue result ↔ (self.now ≡ other.now) }
+    {
+        self == other
+    }
 }
 
 /// A pin as a view lists it.

@@ -16,7 +16,7 @@ use Rattle.pin_counts.specs.Counts.{HasMore}
 use Rattle.pin_moves.specs.declared.a_move.Move.{Move}
 use Rattle.pin_moves.specs.Moves.{pins_of as pins_with_want, moved_pins, going}
 use Rattle.pin_recent.specs.Recent.{IsChanged, given}
-use Rattle.lb_desk_model.specs.declared.table_pin.TablePin.{TablePin}
+use Rattle.pin_set.specs.declared.table_pin.TablePin.{TablePin}
 use Rattle.pin_table.specs.declared.table_kind.TableKind.{TableKind}
 use Rattle.pin_table.specs.declared.held.Held.{Held}
 use Rattle.pin_table.specs.Counted.{AreApart, AreCounted, listed}

@@ -5,7 +5,7 @@ use Rattle.std.specs.Bool.{Decides}
 use Rattle.pin_counts.specs.Counts.{HasOneMore, HasChanged, one_if_same}
 use Rattle.pin_recent.specs.Recent.{touched}
 use Rattle.pin_set.specs.declared.pin.PinId.{PinId}
-use Rattle.lb_desk_model.specs.declared.table_pin.TablePin.{TablePin}
+use Rattle.pin_set.specs.declared.table_pin.TablePin.{TablePin}
 use Rattle.lb_desk_model.specs.Serves.{IsNew}
 use Rattle.lb_types_pins.specs.Kinds.{same_place}
 use Rattle.pin_table.specs.declared.held.Held.{Held}

@@ -1,4 +1,3 @@
-pub mod Names
 pub mod Apart
 pub mod Found
 pub mod Used

@@ -16,7 +16,7 @@ use Rattle.pin_moves.specs.declared.a_move.Move.{Move}
 use Rattle.pin_moves.specs.Moves.{pins_of, moved_pins, moved_with, moved_to, going}
 use Rattle.pin_moves.proofs.Handing.{nothing_left}
 use Rattle.pin_recent.specs.Recent.{Asks, MayChange, given}
-use Rattle.lb_desk_model.specs.declared.table_pin.TablePin.{TablePin}
+use Rattle.pin_set.specs.declared.table_pin.TablePin.{TablePin}
 use Rattle.lb_desk_model.specs.Installs.{moved_to as at_place}
 use Rattle.lb_desk_model.specs.Serves.{IsNew}
 use Rattle.pin_table.specs.declared.held.Held.{Held}

@@ -16,9 +16,9 @@ use Rattle.std.specs.declared.cmp.Ordering.{Ordering}
 use Rattle.std.specs.declared.cmp.Ordering.TheVariants.{Less, Equal, Greater}
 use Rattle.lb_types_pins.specs.Kinds.{kind_before, place_before, same_place}
 use Rattle.pin_set.specs.declared.pin.Pin.{Pin}
-use Rattle.pin_groups.specs.declared.counted.PinCount.{PinCount}
+use Rattle.pin_set.specs.declared.pin_count.PinCount.{PinCount}
 use Rattle.pin_moves.specs.Moves.{AreRisingCounts, counted_pins, pins_of as pins_with_want}
-use Rattle.lb_desk_model.specs.declared.table_pin.TablePin.{TablePin}
+use Rattle.pin_set.specs.declared.table_pin.TablePin.{TablePin}
 use Rattle.pin_table.specs.declared.table_kind.TableKind.{TableKind}
 use Rattle.pin_table.specs.contracts.table_kind.TableKindOrd.TheImpl as kind_order
 use Rattle.pin_table.specs.Kinds.{AreCounts, ArePinCounts}

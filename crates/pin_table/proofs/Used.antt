@@ -6,7 +6,7 @@ use Rattle.std.specs.Bool.{Decides}
 use Rattle.std.specs.Map.{lookup, lookup_key, remove_entry}
 use Rattle.pin_recent.specs.Recent.{touched}
 use Rattle.pin_set.specs.declared.pin.PinId.{PinId}
-use Rattle.lb_desk_model.specs.declared.table_pin.TablePin.{TablePin}
+use Rattle.pin_set.specs.declared.table_pin.TablePin.{TablePin}
 use Rattle.lb_desk_model.specs.Serves.{StandsBetween}
 use Rattle.pin_table.specs.declared.held.Held.{Held}
 use Rattle.pin_table.specs.Counted.{listed, AreApart}

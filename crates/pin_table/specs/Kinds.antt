@@ -1,9 +1,9 @@
 -- What a table counts its pins by: place, wanted servers and cost. That it counts them is our own.
 use Rattle.std.specs.Prelude.{◌≡◌, ℕ, Bool, ◌&&◌, ◌==◌, Option, List, map, count_by, sum_by, if◌then◌else◌}
 use Rattle.lb_types_pins.specs.Kinds.{same_place}
-use Rattle.pin_groups.specs.declared.counted.PinCount.{PinCount}
+use Rattle.pin_set.specs.declared.pin_count.PinCount.{PinCount}
 use Rattle.pin_groups.specs.Counts.{counted_with, pins_with}
-use Rattle.lb_desk_model.specs.declared.table_pin.TablePin.{TablePin}
+use Rattle.pin_set.specs.declared.table_pin.TablePin.{TablePin}
 use Rattle.pin_table.specs.declared.table_kind.TableKind.{TableKind}
 
 abbrev pub kind_of : TablePin → TableKind

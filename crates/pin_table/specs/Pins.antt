@@ -2,7 +2,7 @@
 -- servers beside the key is our own.
 use Rattle.std.specs.Prelude.{◌≡◌, ℕ, Option, Some, List, [], ◌∷◌, ◌++◌}
 use Rattle.pin_set.specs.declared.pin.PinId.{PinId}
-use Rattle.lb_desk_model.specs.declared.table_pin.TablePin.{TablePin}
+use Rattle.pin_set.specs.declared.table_pin.TablePin.{TablePin}
 use Rattle.lb_desk_model.specs.Serves.{StandsBetween}
 use Rattle.pin_table.specs.declared.held.Held.{Held}
 

@@ -8,7 +8,7 @@ use Rattle.pin_set.specs.Views.{kind_of as kind_in}
 use Rattle.pin_groups.specs.Counts.{pins_with}
 use Rattle.pin_moves.specs.declared.a_move.Move.{Move}
 use Rattle.pin_moves.specs.Moves.{pins_of, moved_with, moved_to, going}
-use Rattle.lb_desk_model.specs.declared.table_pin.TablePin.{TablePin}
+use Rattle.pin_set.specs.declared.table_pin.TablePin.{TablePin}
 use Rattle.lb_desk_model.specs.Installs.{moved_to as at_place}
 
 -- the moves are of as many pins of each place, wanted servers and cost as there are

@@ -3,7 +3,7 @@
 use Rattle.std.specs.Prelude.{◌≡◌, ◌≢◌, ◌↔◌, ℕ, ◌+◌, ◌≤◌, Bool, true, ◌&&◌, nat_le, List, length, drop, AllPairs, if◌then◌else◌}
 use Rattle.lb_types.specs.declared.limits.TheConstants.{MAX_PINS}
 use Rattle.pin_set.specs.declared.pin.PinId.{PinId}
-use Rattle.lb_desk_model.specs.declared.table_pin.TablePin.{TablePin}
+use Rattle.pin_set.specs.declared.table_pin.TablePin.{TablePin}
 use Rattle.pin_table.specs.declared.insert_fault.InsertFault.TheVariants.{TableFull}
 use Rattle.pin_table.specs.declared.insert_fault.NotInserted.{NotInserted}
 

@@ -13,13 +13,11 @@ ghost use Rattle.pin_moves.specs.Moves.{AreRisingCounts, move_before};
 
 use crate::placing::counts_after;
 use crate::{Held, TableKind};
-use lb_desk_model::TablePin;
 use lb_types::{Moment, ServerId};
 use pin_counts::Counts;
-use pin_groups::PinCount;
 use pin_moves::{Move, Moving};
 use pin_recent::Recent;
-use pin_set::{Pin, PinId};
+use pin_set::{Pin, PinCount, PinId, TablePin};
 use std::alloc::{AllocError, Global};
 use std::collections::btree_map::Iter;
 use std::hash::BuildHasher;

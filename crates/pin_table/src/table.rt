@@ -12,11 +12,9 @@ ghost use Rattle.pin_table.specs.Tables.{IsTable, IsRefusal, after_use, is_close
 
 use crate::counted_pins::CountedPins;
 use crate::{Held, InsertFault, NotInserted, TableKind};
-use lb_desk_model::{TablePin, TableSettings};
-use lb_types::{Moment, ServerId};
-use pin_groups::PinCount;
+use lb_types::{Moment, ServerId, TableSettings};
 use pin_moves::Move;
-use pin_set::PinId;
+use pin_set::{PinCount, PinId, TablePin};
 use std::alloc::{AllocError, Global};
 use std::collections::btree_map::Iter;
 use std::hash::BuildHasher;

@@ -2,8 +2,7 @@
 ghost use Rattle.std.specs.Prelude.{◌≤◌};
 ghost use Rattle.lb_types.specs.declared.limits.TheConstants.{MAX_PINS};
 
-use lb_desk_model::TableSettings;
-use lb_types::{ServerId, ServerSet};
+use lb_types::{ServerId, ServerSet, TableSettings};
 use pin_set::{PinId, PinKey};
 use std::net::Ipv4Addr;
 

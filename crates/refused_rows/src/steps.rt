@@ -3,10 +3,11 @@
 use crate::farm::{A, B, C, FIRST, Hasher, TWO_MOVED, farm, request, server};
 use crate::marks::{begin, end, tell};
 use dual_cert::{read_plan, read_sheet};
-use lb_desk_model::{Entry, Event, Refusal, Reply, ServedAs, Shared, TablePin};
+use lb_desk_model::{Entry, Event, Refusal, Reply, ServedAs, Shared};
 use lb_desk_ports::Refused;
 use lb_desk_step::Desk;
 use lb_types::Moment;
+use pin_set::TablePin;
 use rise_fall::Flip;
 use server_state::{AdminState, Change, Checked, Setting};
 use std::alloc::Global;

@@ -3,10 +3,8 @@
 use crate::farm::{A, B, Hasher, server};
 use crate::marks::{begin, end, tell};
 use dual_cert::read_plan;
-use lb_desk_model::{TablePin, TableSettings};
-use lb_types::{Moment, ServerSet};
-use pin_groups::PinCount;
-use pin_set::{PinId, PinKey};
+use lb_types::{Moment, ServerSet, TableSettings};
+use pin_set::{PinCount, PinId, PinKey, TablePin};
 use pin_table::Table;
 use pin_table_rows::placed;
 use std::alloc::{AllocError, Global};

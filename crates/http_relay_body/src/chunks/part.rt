@@ -1,5 +1,5 @@
-ghost use Rattle.std.specs.Prelude.{◌≡◌, ◌+◌, ◌<◌, ◌≤◌, ℕ, ◌++◌, length, take, IfOk};
-ghost use Rattle.http_relay_body.specs.Moves.{Begins, client_faults, server_faults};
+ghost use Rattle.std.specs.Prelude.{◌≡◌, ◌+◌, ◌<◌, ◌≤◌, length, IfOk};
+ghost use Rattle.http_relay_body.specs.Moves.{client_faults, server_faults};
 ghost use Rattle.http_relay_body.specs.Parts.{IsPartText, least_from, least_behind};
 ghost use Rattle.http_relay_body.specs.Rooms.{stand, Passed, Sees};
 
@@ -28,14 +28,15 @@ pub(crate) enum Part {
 pub(crate) enum Sight {
     /// It is there: how many bytes it has, and the size that it tells if it is a size line.
     Whole(usize, u64),
-    /// It isn't there yet: so many bytes at least must come, of it and of the body behind it.
+    /// It isn't there yet, and may still come: so many bytes at least must come, of it and of the body behind it.
     Short(usize),
     /// It can't come any more.
     Bad,
 }
 
 /// Judges the next part of the body, and answers the size that it tells if it is a size line. No byte behind the body is taken, since no
-/// more bytes are taken at once than must still come.
+/// more bytes are taken at once than must still come, and none behind bytes that can become no part, since they are judged before more
+/// are waited for.
 pub(crate) fn pass_part<C: Wire, S: Wire>(
     part: Part,
     at_hand: &mut AtHand<'_>,
@@ -52,31 +53,25 @@ pub(crate) fn pass_part<C: Wire, S: Wire>(
     ensures client_written { C.written client.new ≡ C.written client.old }
     ensures server_reading { S.reading server.new ≡ S.reading server.old }
 {
-    let mut seen = 0;
     loop {
-        match look(part, room.ahead(), seen) {
+        match look(part, room.ahead()) {
             Sight::Whole(len, value) => {
                 room.judge(len);
                 return Ok(value);
             }
-            Sight::Short(least) => {
-                seen = room.ahead().len();
-                room.fetch(at_hand, client, server, least)?;
-            }
+            Sight::Short(least) => room.fetch(at_hand, client, server, least)?,
             Sight::Bad => return Err(BodyFault::BadChunk),
         }
     }
 }
 
-/// Looks for the part in this text, in whose first bytes, so many, none was seen.
-fn look(part: Part, text: &[u8], seen: usize) -> Sight
-    requires within { seen ≤ length text.now }
-    requires none { ¬ Begins (IsPartText part) (take seen text.now) }
+/// Looks for the part in this text.
+fn look(part: Part, text: &[u8]) -> Sight
     ensures { Sees part text.now result }
 {
     match part {
         Part::SizeLine => size_line::look(text),
         Part::DataEnd => line_end::look(text),
-        Part::Trailer => trailer::look(text, seen),
+        Part::Trailer => trailer::look(text),
     }
 }

@@ -25,4 +25,5 @@ returns c =
           forgotten_move network old (used_of (size network) c.args.counts.now) c.args.source c.args.target c.args.via c.args.pins c.args.arcs.now c.forget_left.new.arcs c.forget_come.new.arcs
           move first.fewer second.fewer first.stale second.no_less;
       looks = omega (arith, first.looks, second.looks);
+      looks_stay = omega (arith, first.looks, second.looks_stay);
     }

@@ -21,6 +21,7 @@ returns-then-option-start t c =
       cheapest = λ price tight cheapest. cheapest;
       forgotten = forgotten_none network used c.args.arcs.now;
       looks = omega arith;
+      looks_stay = omega arith;
     }
 
 pub pins_of-held-requires : goal.pins_of-held-requires
@@ -144,4 +145,5 @@ returns t c =
       forgotten = forgotten_both network old middle new c.args.arcs.now c.push-moved.new.arcs c.forget_move.new.arcs made.forgotten
           (c.forget_move.ensures.forgotten middle move);
       looks = omega (arith, c.forget_move.ensures.looks, made.looks, mul-le-mul_right (options network) tied.earlier);
+      looks_stay = omega (arith, c.forget_move.ensures.looks_stay, made.looks_stay);
     })

@@ -1,4 +1,4 @@
-use Rattle.std.proofs.Common.{◌+◌, ◌<◌, ◌≤◌, arith}
+use Rattle.std.proofs.Common.{◌+◌, ◌<◌, ◌≤◌, refl, arith}
 use Rattle.std.proofs.Math.Nat.{mul-le-mul_right}
 use Rattle.flow_planner_net.specs.Networks.{size, capacity}
 use Rattle.flow_planner_net.specs.States.{used_of, at}
@@ -13,7 +13,9 @@ loop-loads-init c = record {
   state = c.requires.state;
   pushes = omega arith;
   fits = λ o within fits. fits;
+  none = λ is. refl;
   looks = omega arith;
+  looks_stay = omega arith;
 }
 
 pub relieve-requires : goal.relieve-requires
@@ -45,7 +47,9 @@ loop-loads-preserved c =
       state = c.relieve.ensures.state;
       pushes = omega (arith, c.relieve.ensures.less, here.invariant.pushes);
       fits = λ o within fits. c.relieve.ensures.fits o within (here.invariant.fits o within fits);
+      none = λ is. absurd (omega arith);
       looks = omega (arith, c.relieve.ensures.looks, here.invariant.looks);
+      looks_stay = omega (arith, c.relieve.ensures.looks_stay, here.invariant.looks_stay);
     }
 
 pub loop-loads-smaller : goal.loop-loads-smaller
@@ -60,5 +64,7 @@ returns c =
       pushes = here.invariant.pushes;
       fits = here.invariant.fits;
       here = omega (arith, c.loop-loads-test.false, c.capacity.ensures, at-read here.loads c.args.start);
+      none = here.invariant.none;
       looks = here.invariant.looks;
+      looks_stay = here.invariant.looks_stay;
     }

@@ -1,4 +1,4 @@
-use Rattle.std.proofs.Common.{◌+◌, ◌*◌, ◌<◌, ◌≤◌, ℕ}
+use Rattle.std.proofs.Common.{◌≡◌, ◌+◌, ◌*◌, ◌<◌, ◌≤◌, ℕ}
 use Rattle.flow_planner_net.specs.Networks.{options, size, capacity}
 use Rattle.flow_planner_net.specs.States.{used_of, at, IsState}
 use Rattle.flow_planner_repair.specs.Repairs.{IsLaid, excess, most_looks}
@@ -11,6 +11,8 @@ invariant-loop-loads l = record {
   pushes : l.pushes + excess l.network (at l.loads) ≤ excess l.network (at l.fn.loads);
   fits : (o : ℕ) → o < options l.network → at l.fn.loads o ≤ capacity l.network o → at l.loads o ≤ capacity l.network o;
   looks : l.arcs.looks ≤ l.fn.arcs.looks + l.pushes * most_looks l.network;
+  none : l.pushes ≡ 0 → l.counts ≡ l.fn.counts;
+  looks_stay : l.fn.arcs.looks ≤ l.arcs.looks;
 }
 
 abbrev pub decreases-loop-loads : goal.decreases-loop-loads

@@ -124,4 +124,5 @@ returns c =
       less = omega (arith, less, c.push-moved.ensures.some);
       fits = relieved_fits network old used price new load loaded labels start target q c.requires.start found.nearest.there apart state priced cheapest c.push-moved.ensures.pushed taken given c.carry.ensures.taken c.carry.ensures.given c.carry.ensures.others;
       looks = omega (arith, c.push-moved.ensures.looks, c.search-found.ensures.looks, mul-le-mul_right (options network) (found.search.ranks target found.nearest.there));
+      looks_stay = omega (arith, c.push-moved.ensures.looks_stay, c.search-found.ensures.looks_stay);
     }

@@ -1,4 +1,4 @@
-use Rattle.std.proofs.Common.{◌≤◌, arith, inl, inr, subst, sym}
+use Rattle.std.proofs.Common.{◌≤◌, refl, arith, inl, inr, subst, sym, ◌∙◌}
 use Rattle.std.proofs.Math.Nat.{mul-le-mul_right}
 use Rattle.std.proofs.lemmas.Bool.{cases_eq}
 use Rattle.flow_planner_net.specs.Networks.{size, capacity}
@@ -13,7 +13,9 @@ loop-start-init c = record {
   state = c.requires.state;
   pushes = omega arith;
   within = λ o below. absurd (omega arith);
+  none = λ is. refl;
   looks = omega arith;
+  looks_stay = omega arith;
 }
 
 pub ease-pushes-requires : goal.ease-pushes-requires
@@ -46,7 +48,9 @@ loop-start-preserved c =
             | inl same ↦ subst (λ o. at c.ease-pushes.new.loads o ≤ capacity network o) (sym same) c.ease-pushes.ensures.here
             | inr other ↦ c.ease-pushes.ensures.fits o (omega (arith, c.options-start-end.ensures.exact)) (here.invariant.within o (omega arith))
           ];
+      none = λ is. c.ease-pushes.ensures.none (omega arith) ∙ here.invariant.none (omega arith);
       looks = omega (arith, c.ease-pushes.ensures.looks, here.invariant.looks);
+      looks_stay = omega (arith, c.ease-pushes.ensures.looks_stay, here.invariant.looks_stay);
     }
 
 pub returns : goal.returns
@@ -57,5 +61,7 @@ returns c =
       state = here.invariant.state;
       within = λ o within. here.invariant.within o (omega (arith, c.options-start-end.ensures.exact));
       pushes = omega (arith, here.invariant.pushes);
+      none = here.invariant.none;
       looks = here.invariant.looks;
+      looks_stay = here.invariant.looks_stay;
     }

@@ -37,6 +37,7 @@ loop-here-init c =
           (λ o within ne. c.begin.ensures.far o (omega arith) ne) (λ o within. omega (arith, c.begin.ensures.rank o (omega arith)));
       nearest = c.nearest-here.ensures;
       looks = omega arith;
+      looks_stay = omega arith;
     }
 
 pub overflow_add-settled : goal.overflow_add-settled
@@ -106,6 +107,7 @@ loop-here-preserved c =
       search = search_more network laid.lawful (used_of (size network) c.args.counts.now) (at c.args.prices.now) (at c.args.loads.now) c.requires.state here.labels (with_rank here.labels here.here here.settled) c.settle.new.labels c.args.start here.settled here.here c.refresh.new.self.least c.requires.start (omega (arith, c.requires.over)) here.invariant.search here.invariant.nearest (omega (arith, c.loop-here-test.true, c.capacity.ensures, at-read c.args.loads.now here.here)) (ranked-set here.labels here.here here.settled (omega (arith, laid.labels_len, here.invariant.nearest.there))) c.refresh.ensures.found c.settle.ensures.followed;
       nearest = c.nearest-here-in-loop-here.ensures;
       looks = omega (arith, c.refresh.ensures.looks, here.invariant.looks);
+      looks_stay = omega (arith, c.refresh.ensures.looks_stay, here.invariant.looks_stay);
     }
 
 pub loop-here-smaller : goal.loop-here-smaller
@@ -140,4 +142,5 @@ returns c =
       );
       laid = laid;
       looks = omega (arith, here.invariant.looks, mul-le-mul_right (size network * options network) within);
+      looks_stay = here.invariant.looks_stay;
     }

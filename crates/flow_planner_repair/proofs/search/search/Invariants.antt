@@ -11,6 +11,7 @@ invariant-loop-here l = record {
   search : IsSearch l.network (used_of (size l.network) l.counts) (at l.prices) (at l.loads) l.labels l.start l.settled;
   nearest : IsNearest l.network l.labels l.here;
   looks : l.arcs.looks ≤ l.fn.arcs.looks + l.settled * (size l.network * options l.network);
+  looks_stay : l.fn.arcs.looks ≤ l.arcs.looks;
 }
 
 abbrev pub decreases-loop-here : goal.decreases-loop-here

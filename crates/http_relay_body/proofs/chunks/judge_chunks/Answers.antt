@@ -2,6 +2,7 @@ use Rattle.std.proofs.Common.{refl, [], ◌++◌, ◌∙◌}
 use Rattle.http_relay_body.specs.Chunks.{IsChunked}
 use Rattle.http_relay_body.specs.Parts.{IsChunkText}
 use Rattle.http_relay_body.proofs.Chunking.{chunk_uses}
+use Rattle.http_relay_body.proofs.Finishes.{finishes_chunks}
 use Rattle.http_relay_body.proofs.Parts.{first_part, last_part, join_chunks, skip_chunks}
 use Rattle.http_relay_body.proofs.Rooms.{carry_nothing, carry_twice, handed_later}
 use Rattle.http_relay_body.proofs.chunks.judge_chunks.Goals as goal
@@ -23,7 +24,7 @@ pub returns-in_err-pass_chunk-clause-passed : goal.returns-in_err-pass_chunk-cla
 returns-in_err-pass_chunk-clause-passed g c =
     let known = c.loop.invariant in
     handed_later (λ _ text. IsChunked text) IsChunkText _ _ _ known.done _ _ c.from_residual.ensures.1 known.carried
-    (λ rest begins. first_part rest (known.skips rest begins)) c.in_err-pass_chunk.ensures.passed
+    (λ rest begins. first_part rest (known.skips rest begins)) (finishes_chunks (tt {0}) known.done known.joins) c.in_err-pass_chunk.ensures.passed
 
 pub returns-then-branch-clause-passed : goal.returns-then-branch-clause-passed
 returns-then-branch-clause-passed g c =

@@ -1,7 +1,7 @@
 use Rattle.std.proofs.Common.{arith, refl, [], ◌<◌, ◌++◌, length, length-append, take, sym, ◌∙◌}
 use Rattle.std.proofs.lemmas.Grind.{common_steps}
 use Rattle.http_relay_body.specs.Moves.{IsLong, IsSome}
-use Rattle.http_relay_body.proofs.Moves.{take_nothing, take_twice, append_nothing, appends_both, fault_handed, skip_some}
+use Rattle.http_relay_body.proofs.Moves.{take_nothing, take_twice, append_nothing, appends_both, fault_handed, skip_some, finishes_some}
 use Rattle.http_relay_body.proofs.length.pass.Goals as goal
 
 pub loop-left-init : goal.loop-left-init
@@ -25,7 +25,9 @@ returns-in_err-passed-clause-moved g c =
     let some : 0 < length (take c.min-most.result c.loop-left.room) = grind (arith, common_steps, known.room, c.min-most.ensures, c.loop-left-test.true) in
     fault_handed (IsLong c.args.count) (IsSome (length (take c.min-most.result c.loop-left.room))) _ _ _ _ _ _ _ _ _ _ _ known.text
     c.from_residual.ensures.1 known.taken known.sent
-    (skip_some c.args.count (length (take c.min-most.result c.loop-left.room)) known.text short some) c.in_err-passed.ensures.moved
+    (skip_some c.args.count (length (take c.min-most.result c.loop-left.room)) known.text short some)
+    (finishes_some tt c.args.count (length (take c.min-most.result c.loop-left.room)) known.text
+    (grind (arith, common_steps, known.size, c.min-most.ensures))) c.in_err-passed.ensures.moved
 
 pub loop-left-preserved : goal.loop-left-preserved
 loop-left-preserved g c =

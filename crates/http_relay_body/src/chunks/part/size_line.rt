@@ -1,7 +1,8 @@
 ghost use Rattle.std.specs.Prelude.{◌≡◌, ◌*◌, ◌≤◌, ◌<◌, ℕ, List, ◌++◌, length};
-ghost use Rattle.httparse.specs.Grammar.{HasNoChunkLine};
+ghost use Rattle.httparse.specs.Grammar.{HasNoChunkLine, MayBecomeChunkLine};
 ghost use Rattle.http_relay_body.specs.Parts.{IsSizeText, least_behind_size};
-ghost use Rattle.http_relay_body.specs.Rooms.{MustFollow, Sees};
+ghost use Rattle.http_relay_body.specs.Rooms.{Sees};
+ghost use Rattle.http_relay_body.specs.Trailers.{LineNeeds};
 ghost use Rattle.http_relay_body.specs.declared.chunks.part.Part.TheVariants.{SizeLine};
 
 use crate::chunks::part::Sight;
@@ -25,31 +26,33 @@ pub(crate) fn look(text: &[u8]) -> Sight
     }
 }
 
-/// Says how many bytes must come behind this text, in which no size line was seen.
+/// Says how many bytes must come behind this text, which is a front of a size line but for its limit.
 fn look_short(text: &[u8]) -> Sight
-    requires { HasNoChunkLine text.now }
+    requires none { HasNoChunkLine text.now }
+    requires may { MayBecomeChunkLine text.now }
     ensures { Sees SizeLine text.now result }
 {
-    if text.len() < MOST_LINE_BYTES {
-        return Sight::Short(least_to_come(text));
+    let of_line = needs(text);
+    if text.len() + of_line <= MOST_LINE_BYTES {
+        return Sight::Short(of_line + least_behind(least_size(text)));
     }
     Sight::Bad
 }
 
-/// How many bytes at least must come behind the beginning of a size line.
-fn least_to_come(text: &[u8]) -> usize
-    requires { HasNoChunkLine text.now }
-    ensures some { 0 < result }
-    ensures least { MustFollow SizeLine text.now result }
+/// How many bytes the shortest size line has behind this text, its front.
+fn needs(text: &[u8]) -> usize
+    requires none { HasNoChunkLine text.now }
+    requires may { MayBecomeChunkLine text.now }
+    ensures some { (0 < result) × (result ≤ 3) }
+    ensures needs { LineNeeds text.now result }
 {
     if text.is_empty() {
-        return LEAST_BODY_BYTES;
+        return b"0\r\n".len();
     }
-    let behind = least_behind(least_size(text));
     if text[text.len() - 1] == b'\r' {
-        return 1 + behind;
+        return b"\n".len();
     }
-    2 + behind
+    b"\r\n".len()
 }
 
 /// How many bytes at least must come behind a size line that tells this size.

@@ -2,6 +2,7 @@ use Rattle.std.proofs.Common.{◌≡◌, ◌<◌, length, get_or, Some, refl, sy
 use Rattle.http_relay_dial.specs.Dials.{talk_of}
 use Rattle.lb_acl.specs.HeadView.{HeadView}
 use Rattle.http_relay_serve.proofs.Places.{get_at}
+use Rattle.http_relay_serve.proofs.Stages.{body_of_head}
 use Rattle.http_relay_serve.proofs.serving.relay.Goals as goal
 
 pub returns : goal.returns
@@ -12,6 +13,7 @@ returns g c =
       read = c.in-Ok.read;
       client = talk_of g.C.Wire.written g.C.Wire.reading g.C.Wire.faults c.read_head.new.wire;
       takes_head = record { read = c.in-Ok.ensures.head; judged = c.in-Ok.ensures.input; faults = c.in-Ok.ensures.faults; unanswered = c.in-Ok.ensures.written };
+      bodies = body_of_head c.args.client.now.source _ _ c.in-Ok.read c.in-Ok.ensures.head;
       backend = c.in-Some.backend;
       routed = subst (λ (h : HeadView). routes.backend h ≡ Some c.in-Some.backend) c.head.ensures (sym c.in-Some.ensures.backend);
       old = get_or c.args.ports.now c.in-Some.backend c.index-ports-backend.result;

@@ -5,5 +5,5 @@ use Rattle.lb_desk_backend.proofs.backend.backend_of.Goals as goal
 
 pub new-requires : goal.new-requires
 new-requires c =
-    alike_make_a_backend c.balance_of-balance.result c.all_backups.result c.table_of-table.result c.in_ok-servers.servers.items c.servers.result.now
+    alike_make_a_backend c.balance.result c.all_backups.result c.table_of-table.result c.in_ok-servers.servers.items c.servers.result.now
     (subst IsServers (sym c.servers.ensures.exact) c.servers.ensures.lawful) c.in_ok-servers.ensures.same c.in_ok-servers.ensures.named

@@ -1,5 +1,5 @@
 use Rattle.std.proofs.Common.{List, ap, ◌∙◌, arith}
-use Rattle.lb_desk_model.specs.declared.table_pin.TablePin.{TablePin}
+use Rattle.pin_set.specs.declared.table_pin.TablePin.{TablePin}
 use Rattle.pin_table.specs.Tables.{with_pins}
 use Rattle.lb_desk_core.proofs.Expired.{gone_rising, gone_younger, all_gone, counted_gone}
 use Rattle.lb_desk_core.proofs.Leaving.{other_pins, gone_held, gone_counted}

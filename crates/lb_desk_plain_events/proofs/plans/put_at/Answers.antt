@@ -1,5 +1,5 @@
 use Rattle.std.proofs.Common.{ℕ, Option, List, slice_index_or, slice_set, ap, ◌∙◌}
-use Rattle.lb_desk_model.specs.declared.table_pin.TablePin.{TablePin}
+use Rattle.pin_set.specs.declared.table_pin.TablePin.{TablePin}
 use Rattle.lb_desk_model.specs.Installs.{moved_to}
 use Rattle.lb_desk_plain_events.proofs.Places.{placed_below, placed_more}
 use Rattle.lb_desk_plain_events.proofs.plans.put_at.Goals as goal

@@ -2,7 +2,7 @@ use Rattle.std.proofs.Common.{Option, Some, List, sym, ap, ◌∙◌}
 use Rattle.std.specs.List.{find}
 use Rattle.std.specs.Option.{option_map}
 use Rattle.lb_types.specs.Servers.{has}
-use Rattle.lb_desk_model.specs.declared.balance.Balance.{Balance}
+use Rattle.lb_types.specs.declared.balance.Balance.{Balance}
 use Rattle.lb_desk_model.specs.declared.stand.Stand.{Stand}
 use Rattle.lb_desk_model.specs.Picks.{picked, is_behind, round_from, balanced}
 use Rattle.lb_desk_plain_picks.proofs.balancing.balanced.Goals as goal

@@ -3,7 +3,7 @@ use Rattle.std.specs.List.{sum_by}
 use Rattle.std.proofs.lemmas.List.{drop_all, take_all, with_items_is}
 use Rattle.dual_cert_plan.proofs.OwnSheet.{pins-groups_of}
 use Rattle.dual_cert_plan.specs.Plans.{pins_in_rows}
-use Rattle.pin_groups.specs.declared.counted.PinCount.{PinCount}
+use Rattle.pin_set.specs.declared.pin_count.PinCount.{PinCount}
 use Rattle.pin_groups.specs.Counts.{counted_with}
 use Rattle.pin_moves.proofs.Shared.{order_start, tally, to_come-next, whole-next, few_counted, still_behind, none_sent}
 use Rattle.pin_moves.proofs.sharing.shared_out.Goals as goal

@@ -4,7 +4,7 @@ use Rattle.lb_types_pins.specs.declared.kind.PinKind.{PinKind}
 use Rattle.lb_types_pins.specs.Kinds.{kind_before, same_kind}
 use Rattle.dual_cert_plan.specs.Plans.{pins_in_rows}
 use Rattle.pin_set.specs.Rows.{sent}
-use Rattle.pin_groups.specs.declared.counted.PinCount.{PinCount}
+use Rattle.pin_set.specs.declared.pin_count.PinCount.{PinCount}
 use Rattle.pin_groups.specs.Counts.{counted_kind, counted_with}
 use Rattle.pin_moves.specs.Leftovers.{AreInOrder}
 use Rattle.pin_moves.specs.Moves.{counted_pins, moved_pins, move_before, moved_with, moved_to}

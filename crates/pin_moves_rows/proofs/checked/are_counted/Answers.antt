@@ -1,6 +1,6 @@
 use Rattle.std.proofs.Common.{refl, arith}
 use Rattle.lb_types_pins.specs.declared.kind.Row.{Row}
-use Rattle.pin_groups.specs.declared.counted.PinCount.{PinCount}
+use Rattle.pin_set.specs.declared.pin_count.PinCount.{PinCount}
 use Rattle.pin_groups.specs.Counts.{counted_kind}
 use Rattle.pin_moves_rows.proofs.Counted.{Counted, all_counted, one_more}
 use Rattle.pin_moves_rows.proofs.checked.are_counted.Goals as goal

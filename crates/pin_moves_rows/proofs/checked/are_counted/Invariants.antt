@@ -1,6 +1,6 @@
 use Rattle.std.proofs.Common.{ℕ, ◌<◌, length, get_or}
 use Rattle.lb_types_pins.specs.declared.kind.Row.{Row}
-use Rattle.pin_groups.specs.declared.counted.PinCount.{PinCount}
+use Rattle.pin_set.specs.declared.pin_count.PinCount.{PinCount}
 use Rattle.pin_groups.specs.Counts.{counted_kind}
 use Rattle.pin_moves_rows.proofs.Counted.{Counted}
 use Rattle.pin_moves_rows.proofs.checked.are_counted.Given as goal

@@ -1,6 +1,6 @@
 use Rattle.std.proofs.Common.{refl, arith}
 use Rattle.pin_set.specs.declared.pin.Pin.{Pin}
-use Rattle.pin_groups.specs.declared.counted.PinCount.{PinCount}
+use Rattle.pin_set.specs.declared.pin_count.PinCount.{PinCount}
 use Rattle.pin_moves_rows.proofs.Counted.{PinsCounted, all_pins_counted, one_more}
 use Rattle.pin_moves_rows.proofs.sheeted.are_pins_counted.Goals as goal
 

@@ -1,6 +1,6 @@
 use Rattle.std.proofs.Common.{ℕ, ◌<◌, length, get_or}
 use Rattle.pin_set.specs.declared.pin.Pin.{Pin}
-use Rattle.pin_groups.specs.declared.counted.PinCount.{PinCount}
+use Rattle.pin_set.specs.declared.pin_count.PinCount.{PinCount}
 use Rattle.pin_moves_rows.proofs.Counted.{PinsCounted}
 use Rattle.pin_moves_rows.proofs.sheeted.are_pins_counted.Given as goal
 

@@ -17,6 +17,7 @@ loop-from-init c =
       finding = finding_start network used c.args.source c.args.self.now.fresh c.args.self.now.least c.requires.none c.requires.groups;
       fresh = refl;
       looks = omega arith;
+      looks_stay = omega arith;
     }
 
 pub find_among-requires : goal.find_among-requires
@@ -62,6 +63,7 @@ loop-from-preserved c =
                 (subst (λ fresh. AreFound network used from source here.self.least fresh → AreFound network used (from + many) source w.find_among.new.self.least fresh) here.invariant.fresh made.found);
             fresh = made.fresh ∙ here.invariant.fresh;
             looks = omega (arith, made.looks, here.invariant.looks);
+            looks_stay = omega (arith, made.looks_stay, here.invariant.looks_stay);
           })
       | else-has_pins w ↦
           let none : (i : ℕ) → i < many → used source (from + i) ≤ 0 =
@@ -73,6 +75,7 @@ loop-from-preserved c =
             finding = finding_past_all network used source old.fresh old.least here.self.least from many none here.invariant.finding;
             fresh = here.invariant.fresh;
             looks = omega (arith, here.invariant.looks);
+            looks_stay = here.invariant.looks_stay;
           })
     ]
 
@@ -94,4 +97,5 @@ returns c =
       others = done.others;
       fresh = here.invariant.fresh;
       looks = omega (arith, here.invariant.looks);
+      looks_stay = here.invariant.looks_stay;
     }

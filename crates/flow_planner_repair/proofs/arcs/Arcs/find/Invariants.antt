@@ -12,6 +12,7 @@ invariant-loop-from l = record {
   finding : IsFinding l.network (used_of (size l.network) l.counts) l.source l.fn.self.fresh l.fn.self.least l.self.least l.from;
   fresh : l.self.fresh ≡ l.fn.self.fresh;
   looks : l.self.looks ≤ l.fn.self.looks + l.from * options l.network;
+  looks_stay : l.fn.self.looks ≤ l.self.looks;
 }
 
 abbrev pub decreases-loop-from : goal.decreases-loop-from

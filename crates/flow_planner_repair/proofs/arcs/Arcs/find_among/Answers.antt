@@ -22,6 +22,7 @@ loop-step-init c =
       found = λ before. subst (λ n. AreFound network used n c.args.source old.least old.fresh) same before;
       fresh = refl;
       looks = omega arith;
+      looks_stay = omega arith;
     }
 
 pub offer-requires : goal.offer-requires
@@ -67,6 +68,7 @@ loop-step-preserved c =
                 subst (λ n. AreFound network used n source w.offer.new.self.least old.fresh) next (found used some (here.invariant.found before));
             fresh = made.fresh ∙ here.invariant.fresh;
             looks = omega (arith, made.looks, here.invariant.looks);
+            looks_stay = omega (arith, made.looks_stay, here.invariant.looks_stay);
           })
       | else-counts-source-gt0 w ↦
           let none : used source group ≤ 0 = omega (arith, w.if-counts-source-gt0.false) in
@@ -81,5 +83,6 @@ loop-step-preserved c =
                 subst (λ n. AreFound network used n source here.self.least old.fresh) next passed;
             fresh = here.invariant.fresh;
             looks = omega (arith, here.invariant.looks);
+            looks_stay = here.invariant.looks_stay;
           })
     ]

@@ -14,4 +14,5 @@ invariant-loop-step l = record {
       → AreFound l.network (used_of (size l.network) l.counts) (l.from + l.step) l.source l.self.least l.fn.self.fresh;
   fresh : l.self.fresh ≡ l.fn.self.fresh;
   looks : l.self.looks ≤ l.fn.self.looks + l.step * options l.network;
+  looks_stay : l.fn.self.looks ≤ l.self.looks;
 }

@@ -16,6 +16,7 @@ loop-target-init c = record {
   };
   fresh = refl;
   looks = omega arith;
+  looks_stay = omega arith;
 }
 
 pub loop-target-preserved : goal.loop-target-preserved
@@ -34,6 +35,7 @@ loop-target-preserved c =
           (λ is. made.found (subst (λ fresh. is_fresh (options network) fresh source target ≡ false) (sym here.invariant.fresh) is));
       fresh = made.fresh ∙ here.invariant.fresh;
       looks = omega (arith, made.looks, here.invariant.looks);
+      looks_stay = omega (arith, made.looks_stay, here.invariant.looks_stay);
     }
 
 pub returns : goal.returns
@@ -48,6 +50,7 @@ returns c =
       known = offered.known;
       fresh = here.invariant.fresh;
       looks = omega (arith, here.invariant.looks, c.requires.short);
+      looks_stay = here.invariant.looks_stay;
       found = λ used some before k within stale.
           offered.found used k some stale (before k within stale) within (subst (λ many. IsListed c.args.targets.now many k) (sym all) (c.requires.listed k within stale));
     }

@@ -9,4 +9,5 @@ invariant-loop-target l = record {
   offered : IsOffered l.network l.source l.group l.fn.self.fresh l.targets l.fn.self.least l.self.least l.target-index;
   fresh : l.self.fresh ≡ l.fn.self.fresh;
   looks : l.self.looks ≤ l.fn.self.looks + l.target-index;
+  looks_stay : l.fn.self.looks ≤ l.self.looks;
 }

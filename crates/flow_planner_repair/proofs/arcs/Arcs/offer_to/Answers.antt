@@ -30,6 +30,7 @@ returns-then-look c =
       known = λ is. absurd (false≢true (sym stale ∙ is));
       fresh = made.fresh ∙ looked.fresh;
       looks = omega (arith, made.looks, looked.counted);
+      looks_stay = omega (arith, made.looks, looked.counted);
       found = λ _ used some was.
           made.found used some (subst (λ least. IsLeast network used c.args.group source target (least_of (options network) least source target)) (sym looked.least) was);
     }
@@ -51,6 +52,7 @@ returns-else-look c =
       known = λ is. ap (λ least. least_of (options network) least source target) looked.least;
       fresh = looked.fresh;
       looks = omega (arith, looked.counted);
+      looks_stay = omega (arith, looked.counted);
       found = λ _ used some was.
           subst (λ least. IsLeast network used (group + 1) source target (least_of (options network) least source target)) (sym looked.least)
           (least-passed network used group source target (least_of (options network) old source target) (λ _ allowed. false≢true (sym closed ∙ allowed)) was);
@@ -72,5 +74,6 @@ returns-else-is_stale c =
       known = λ is. refl;
       fresh = refl;
       looks = omega arith;
+      looks_stay = omega arith;
       found = λ stale used some was. absurd (false≢true (sym stale ∙ right));
     }

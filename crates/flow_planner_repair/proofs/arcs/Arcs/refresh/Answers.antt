@@ -22,6 +22,7 @@ returns-then-are_fresh c =
       kept = c.requires.kept;
       found = λ k within. c.requires.kept source k c.requires.source within (right k within);
       looks = omega arith;
+      looks_stay = omega arith;
     }
 
 pub stale_targets-stale-requires : goal.stale_targets-stale-requires
@@ -97,4 +98,5 @@ returns c =
       kept = rw same (refreshed_kept network used source old cleared least c.requires.kept c.keep.new.self.fresh row others1 c.find.ensures.others marks);
       found = subst (λ least. AreLeast network used (size network) source least) (sym same) row;
       looks = omega (arith, c.keep.ensures.looks, c.find.ensures.looks, c.clear.ensures.looks);
+      looks_stay = omega (arith, c.keep.ensures.looks, c.find.ensures.looks_stay, c.clear.ensures.looks);
     }

@@ -1,9 +1,9 @@
-use Rattle.std.proofs.Common.{arith, refl, ◌≡◌, ◌<◌, [], ◌++◌, length, length-append, length-drop, take, drop, subst, sym, ap, length-take-le, ◌∙◌}
+use Rattle.std.proofs.Common.{arith, refl, ◌≡◌, ◌<◌, [], ◌++◌, length, length-append, length-drop, take, subst, sym, ap, length-take-le, ◌∙◌}
 use Rattle.std.proofs.lemmas.Grind.{common_steps}
-use Rattle.http_relay_body.specs.Moves.{Begins, IsLong, IsSome}
+use Rattle.http_relay_body.specs.Moves.{Begins, MayBecome, IsLong, IsSome}
 use Rattle.http_relay_body.specs.Rooms.{RoomView}
 use Rattle.http_relay_body.proofs.Lines.{empty}
-use Rattle.http_relay_body.proofs.Moves.{skip_some, nothing_some}
+use Rattle.http_relay_body.proofs.Moves.{skip_some, nothing_some, may_some, finishes_some}
 use Rattle.http_relay_body.proofs.Rooms.{carry_nothing, carry_twice, carry_judged, stopped_short, handed_later}
 use Rattle.http_relay_body.proofs.chunks.data.pass_bytes.Goals as goal
 
@@ -64,5 +64,6 @@ returns-in_err-fetch-clause-passed g c =
     let gone = ap (λ (room : RoomView). length room.ahead) c.judge.ensures ∙ length-drop c.min-here.result c.loop-left.room.ahead in
     let nothing : length c.judge.new.self.ahead ≡ 0 = grind (arith, common_steps, gone, within, c.min-here.ensures, c.if-left-eq0.false) in
     handed_later (IsLong c.args.count) (IsSome 1) _ _ _ (known.done ++ here) _ _ c.from_residual.ensures.1 judged
-    (skip_some c.args.count 1 (known.done ++ here) short (omega arith))
-    (stopped_short (IsSome 1) c.least_to_come.result _ _ _ (subst (λ text. ¬ Begins (IsSome 1) text) (sym (empty c.judge.new.self.ahead nothing)) (nothing_some 1)) c.in_err-fetch.ensures.fetched)
+    (skip_some c.args.count 1 (known.done ++ here) short (omega arith)) (finishes_some tt c.args.count 1 (known.done ++ here) (omega (arith, short)))
+    (stopped_short (IsSome 1) c.least_to_come.result _ _ _ (subst (λ text. ¬ Begins (IsSome 1) text) (sym (empty c.judge.new.self.ahead nothing)) (nothing_some 1))
+    (subst (λ text. MayBecome (IsSome 1) text) (sym (empty c.judge.new.self.ahead nothing)) (may_some 1 (omega arith))) c.in_err-fetch.ensures.fetched)

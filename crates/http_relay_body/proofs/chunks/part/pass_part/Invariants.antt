@@ -7,12 +7,13 @@ use Rattle.http_relay_body.proofs.chunks.part.pass_part.Given as goal
 -- no part stands in the bytes that were seen, and no more bytes stand behind them than must still come
 abbrev pub invariant-loop-len : goal.invariant-loop-len
 invariant-loop-len g l = record {
+  seen : ℕ;
   least : ℕ;
   carried : Carried (stand l.fn.at_hand (g.C.Wire.reading l.fn.client) (g.S.Wire.written l.fn.server) l.fn.room) (stand l.at_hand (g.C.Wire.reading l.client) (g.S.Wire.written l.server) l.room) [];
-  within : l.seen ≤ length l.room.ahead;
-  none : ¬ Begins (IsPartText l.part) (take l.seen l.room.ahead);
-  must : MustFollow l.part (take l.seen l.room.ahead) least;
-  few : length l.room.ahead ≤ l.seen + least;
+  within : seen ≤ length l.room.ahead;
+  none : ¬ Begins (IsPartText l.part) (take seen l.room.ahead);
+  must : MustFollow l.part (take seen l.room.ahead) least;
+  few : length l.room.ahead ≤ seen + least;
   client : g.C.Wire.faults l.client ≡ g.C.Wire.faults l.fn.client;
   server : g.S.Wire.faults l.server ≡ g.S.Wire.faults l.fn.server;
   client_written : g.C.Wire.written l.client ≡ g.C.Wire.written l.fn.client;

@@ -1,4 +1,4 @@
-use Rattle.std.proofs.Common.{arith, take, length, ◌-◌}
+use Rattle.std.proofs.Common.{arith, take, ◌-◌}
 use Rattle.std.proofs.lemmas.Grind.{common_steps}
 use Rattle.http_relay_wire.proofs.Rooms.{read_behind}
 use Rattle.http_relay_body.proofs.chunks.room.take_behind.Goals as goal

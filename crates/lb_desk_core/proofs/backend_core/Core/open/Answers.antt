@@ -1,7 +1,7 @@
 use Rattle.std.proofs.Common.{◌≡◌, ℕ, Option, None, List, [], sym, ap, subst, ◌∙◌, map}
 use Rattle.server_state.specs.Farm.{FarmView}
-use Rattle.lb_desk_model.specs.declared.backend.TableSettings.{TableSettings}
-use Rattle.lb_desk_model.specs.declared.balance.Balance.{Balance}
+use Rattle.lb_types.specs.declared.table_settings.TableSettings.{TableSettings}
+use Rattle.lb_types.specs.declared.balance.Balance.{Balance}
 use Rattle.lb_desk_model.specs.Seen.{Seen}
 use Rattle.lb_desk_model.specs.States.{opening}
 use Rattle.lb_desk_core.specs.Core.{IsReached}

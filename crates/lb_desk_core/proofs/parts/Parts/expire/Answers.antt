@@ -1,6 +1,6 @@
 use Rattle.std.proofs.Common.{◌≡◌, ◌∙◌, ℕ, ◌≤◌, true, not, None, Some, max, List, sym, ap, subst, arith}
 use Rattle.std.specs.Prelude.{All, filter}
-use Rattle.lb_desk_model.specs.declared.table_pin.TablePin.{TablePin}
+use Rattle.pin_set.specs.declared.table_pin.TablePin.{TablePin}
 use Rattle.lb_desk_model.specs.Seen.{Seen}
 use Rattle.lb_desk_core.specs.Expiring.{ArePlaced, is_due}
 use Rattle.lb_desk_core.specs.Parts.{shown_of}

@@ -1,6 +1,6 @@
 use Rattle.std.proofs.Common.{◌≡◌, false, not, Option, Some, None, IfOk, is_some, true≢false, refl, sym, ap, ◌∙◌, subst}
 use Rattle.pin_set.specs.declared.pin_key.PinKey.{PinKey}
-use Rattle.lb_desk_model.specs.declared.backend.TableSettings.{TableSettings}
+use Rattle.lb_types.specs.declared.table_settings.TableSettings.{TableSettings}
 use Rattle.lb_desk_model.specs.declared.event.Event.TheVariants.{Serve}
 use Rattle.lb_desk_model.specs.declared.event.Request.{Request}
 use Rattle.lb_desk_core.specs.Acting.{ActsOn}

@@ -13,7 +13,7 @@ use Rattle.lb_desk_model.specs.declared.event.Event.TheVariants.{Serve}
 use Rattle.lb_desk_model.specs.declared.reply.Refusal.TheVariants.{NoServer}
 use Rattle.lb_desk_model.specs.declared.reply.Reply.TheVariants.{Served, Refused}
 use Rattle.lb_desk_model.specs.declared.reply.ServedAs.TheVariants.{Made}
-use Rattle.lb_desk_model.specs.declared.table_pin.TablePin.{TablePin}
+use Rattle.pin_set.specs.declared.table_pin.TablePin.{TablePin}
 use Rattle.lb_desk_pick.specs.Sights.{lost_place}
 use Rattle.lb_desk_core.specs.Acting.{ActsOn, ForEach}
 use Rattle.lb_desk_core.specs.Core.{CoreView, IsReached}

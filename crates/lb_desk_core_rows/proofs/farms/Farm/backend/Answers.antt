@@ -1,6 +1,6 @@
 use Rattle.std.proofs.Common.{false, List, sym, subst}
 use Rattle.lb_desk_model.specs.declared.backend.BackendServer.{BackendServer}
-use Rattle.lb_desk_model.specs.declared.balance.Balance.TheVariants.{RoundRobin}
+use Rattle.lb_types.specs.declared.balance.Balance.TheVariants.{RoundRobin}
 use Rattle.lb_desk_model.specs.Backends.{IsBackend, backend_of_parts}
 use Rattle.lb_desk_core_rows.proofs.Named.{two_make_a_backend}
 use Rattle.lb_desk_core_rows.proofs.farms.Farm.backend.Goals as goal

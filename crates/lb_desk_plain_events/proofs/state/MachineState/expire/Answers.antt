@@ -1,5 +1,5 @@
 use Rattle.std.proofs.Common.{◌≡◌, Bool, false, List, sym, ap, ◌∙◌}
-use Rattle.lb_desk_model.specs.declared.table_pin.TablePin.{TablePin}
+use Rattle.pin_set.specs.declared.table_pin.TablePin.{TablePin}
 use Rattle.lb_desk_model.specs.Serves.{moment_of}
 use Rattle.lb_desk_model.specs.Steps.{has_expired}
 use Rattle.lb_desk_plain_events.proofs.Expired.{none_expires, none_counted, all_stay}

@@ -3,7 +3,7 @@ use Rattle.std.specs.Vec.{with_items}
 use Rattle.std.proofs.lemmas.List.{with_items_is}
 use Rattle.pin_set.specs.Rows.{Agrees}
 use Rattle.pin_set.specs.Views.{ViewParts, kinds_of}
-use Rattle.lb_desk_model.specs.declared.table_pin.TablePin.{TablePin}
+use Rattle.pin_set.specs.declared.table_pin.TablePin.{TablePin}
 use Rattle.lb_desk_model.specs.States.{State, view_of}
 use Rattle.lb_desk_plain_events.proofs.Places.{placed}
 use Rattle.lb_desk_plain_events.proofs.state.MachineState.install.Goals as goal

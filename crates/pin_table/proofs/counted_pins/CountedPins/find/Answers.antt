@@ -1,7 +1,7 @@
 use Rattle.std.proofs.Common.{IfSome, IfNone, subst, ◌∙◌}
 use Rattle.lb_desk_model.specs.Serves.{IsNew}
 use Rattle.pin_table.specs.Pins.{Stands}
-use Rattle.pin_table.proofs.Names.{names_decide}
+use Rattle.pin_set.specs.Names.{names_decide}
 use Rattle.pin_table.proofs.Found.{found_all, absent_all}
 use Rattle.pin_table.proofs.counted_pins.CountedPins.find.Goals as goal
 

@@ -2,7 +2,7 @@ use Rattle.std.proofs.Common.{◌+◌, cond, refl, ap, sym, subst, ◌∙◌}
 use Rattle.lb_desk_model.specs.Serves.{StandsBetween}
 use Rattle.pin_table.specs.Counted.{listed, AreCounted}
 use Rattle.pin_table.specs.Pins.{Stands}
-use Rattle.pin_table.proofs.Names.{names_decide}
+use Rattle.pin_set.specs.Names.{names_decide}
 use Rattle.pin_table.proofs.Found.{stands_found}
 use Rattle.pin_table.proofs.Used.{touched_used}
 use Rattle.pin_table.proofs.Counting.{counted-used}

@@ -5,7 +5,7 @@ use Rattle.pin_table.specs.declared.table_kind.TableKind.{TableKind}
 use Rattle.pin_table.specs.Counted.{listed, AreCounted}
 use Rattle.pin_table.specs.Kinds.{kind_of, same_kind, counted_of}
 use Rattle.pin_table.specs.Pins.{held_pin, Stands}
-use Rattle.pin_table.proofs.Names.{names_decide}
+use Rattle.pin_set.specs.Names.{names_decide}
 use Rattle.pin_table.proofs.Found.{stands_found}
 use Rattle.pin_table.proofs.Used.{held_in, touched_used}
 use Rattle.pin_table.proofs.Counting.{fits, some_between, counted-used}

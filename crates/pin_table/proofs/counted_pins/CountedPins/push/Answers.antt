@@ -5,7 +5,7 @@ use Rattle.pin_table.specs.declared.table_kind.TableKind.{TableKind}
 use Rattle.pin_table.specs.Counted.{listed, AreCounted}
 use Rattle.pin_table.specs.Kinds.{kind_of, same_kind}
 use Rattle.pin_table.specs.Pins.{held_pin}
-use Rattle.pin_table.proofs.Names.{names_decide}
+use Rattle.pin_set.specs.Names.{names_decide}
 use Rattle.pin_table.proofs.Found.{new_absent}
 use Rattle.pin_table.proofs.Counting.{on_ok, fits, counts-back, counted-push}
 use Rattle.pin_table.proofs.counted_pins.CountedPins.push.Goals as goal

@@ -1,5 +1,5 @@
 use Rattle.std.proofs.Common.{◌++◌, ◌∷◌, [], ap, sym, ◌∙◌, append-nil, append_assoc}
-use Rattle.lb_desk_model.specs.declared.table_pin.TablePin.{TablePin}
+use Rattle.pin_set.specs.declared.table_pin.TablePin.{TablePin}
 use Rattle.pin_table.specs.Counted.{listed}
 use Rattle.pin_table.specs.Pins.{held_pin}
 use Rattle.pin_table.proofs.counted_pins.CountedPins.rows.Goals as goal

@@ -1,9 +1,14 @@
 use Rattle.std.proofs.Common.{arith}
-use Rattle.http_relay_body.specs.declared.chunks.part.Part.TheVariants.{SizeLine}
-use Rattle.http_relay_body.specs.Parts.{IsPartText}
-use Rattle.http_relay_body.proofs.Lines.{none_size}
-use Rattle.http_relay_body.proofs.Sights.{full_part, size_short}
+use Rattle.http_relay_body.proofs.Cuts.{size_seen, size_over}
 use Rattle.http_relay_body.proofs.chunks.part.size_line.look_short.Goals as goal
 
+pub returns-then-text-of_line-le-MOST_LINE_BYTES : goal.returns-then-text-of_line-le-MOST_LINE_BYTES
+returns-then-text-of_line-le-MOST_LINE_BYTES c =
+    let line = c.needs-of_line in
+    rw c.least_behind.ensures
+    (size_seen c.args.text.now line.result c.least_size.result c.requires.none line.ensures.needs line.ensures.some.0
+    c.if-text-of_line-le-MOST_LINE_BYTES.true c.least_size.ensures.least)
+
 pub returns : goal.returns
-returns c = full_part (IsPartText SizeLine) c.args.text.now 256 size_short (none_size c.args.text.now c.requires) (omega (arith, c.if-text-lt-MOST_LINE_BYTES.false))
+returns c =
+    size_over c.args.text.now c.needs-of_line.result c.requires.none c.needs-of_line.ensures.needs (omega (arith, c.if-text-of_line-le-MOST_LINE_BYTES.false))

@@ -1,5 +1,5 @@
+use crate::Pin;
 use lb_types::Moment;
-use pin_set::Pin;
 
 /// A pin as the table keeps it.
 #[derive(Clone, Debug, Drop, PartialEq, Eq)]

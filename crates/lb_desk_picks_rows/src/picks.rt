@@ -1,9 +1,9 @@
 //! Each balance beside the walk that a reader would make by hand, on all small farms, and what one server does.
 
-use lb_desk_model::{BackendServer, Balance, Stand, TablePin};
+use lb_desk_model::{BackendServer, Stand};
 use lb_desk_plain_picks::{Server, balanced, has_room, usable_among, with_room_for_a_pin};
-use lb_types::{Moment, Name, ServerId, ServerSet};
-use pin_set::{Pin, PinId, PinKey};
+use lb_types::{Balance, Moment, Name, ServerId, ServerSet};
+use pin_set::{Pin, PinId, PinKey, TablePin};
 use rise_fall::Flip;
 use server_state::{AdminState, CheckSettings, ServerSettings, Setting};
 use std::alloc::Global;

@@ -1,4 +1,4 @@
-/// How a backend chooses among the servers that a request may go to.
+/// How a backend chooses among the servers that a request may go to: HAProxy Configuration Manual 2.8, section 4.2, `balance`.
 #[derive(Clone, Copy, Debug, PartialEq, Eq, Hash)]
 pub enum Balance {
     /// In turn, each server as often as its weight says.

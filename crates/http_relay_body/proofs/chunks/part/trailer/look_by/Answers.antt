@@ -1,6 +1,6 @@
 use Rattle.std.proofs.Common.{arith}
 use Rattle.http_relay_body.proofs.Sights.{long_trailer}
-use Rattle.http_relay_body.proofs.chunks.part.trailer.look_whole.Goals as goal
+use Rattle.http_relay_body.proofs.chunks.part.trailer.look_by.Goals as goal
 
 pub returns-in_default : goal.returns-in_default
 returns-in_default c =
