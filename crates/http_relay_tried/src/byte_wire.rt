@@ -30,6 +30,7 @@ pub(crate) struct ByteWire<'a> {
     peer: Peer,
     unread: &'a [u8],
     has_ended: bool,
+    given: usize,
     written: Vec<u8>,
     reads_left: u64,
     faults: FaultCounts,
@@ -46,10 +47,16 @@ impl<'a> ByteWire<'a> {
             peer,
             unread: front(text, peer.sends),
             has_ended: false,
+            given: 0,
             written: Vec::new(alloc),
             reads_left: 1 << 62,
             faults: FaultCounts::default(),
         }
+    }
+
+    /// How many bytes reads gave so far.
+    pub(crate) fn given(&self) -> usize {
+        self.given
     }
 
     /// What was written so far.
@@ -83,6 +90,7 @@ impl Wire for ByteWire<'_> {
         let count = self.unread.len().min(buffer.len()).min(piece);
         buffer[..count].copy_from_slice(&self.unread[..count]);
         self.unread = &self.unread[count..];
+        self.given = self.given.saturating_add(count);
         self.has_ended = self.has_ended || (count == 0 && !buffer.is_empty());
         Ok(count)
     }

@@ -158,7 +158,8 @@ fn bad(
     })
 }
 
-/// Something in the place of a size line. It shows with the first byte that can't stand there.
+/// Something in the place of a size line. It shows with the first byte that can't stand there, and a long one where its line feed can only
+/// come too late.
 fn bad_size_line(alloc: Global, dice: &mut Dice) -> Result<Part, AllocError> {
     let (text, shown) = match dice.roll(9) {
         0 => ("g\r\n", 1),
@@ -174,8 +175,8 @@ fn bad_size_line(alloc: Global, dice: &mut Dice) -> Result<Part, AllocError> {
                 alloc,
                 PartKind::Size,
                 "5;",
-                MOST_SIZE_BYTES,
-                MOST_SIZE_BYTES,
+                MOST_SIZE_BYTES.saturating_sub(1),
+                MOST_SIZE_BYTES.saturating_sub(1),
             )?;
             for _ in 0..MOST_SIZE_BYTES {
                 line.text.push(b'e')?;
@@ -200,7 +201,7 @@ fn bad_trailer(alloc: Global, dice: &mut Dice) -> Result<Part, AllocError> {
                 kind: PartKind::Trailer,
                 text: long_trailer(alloc, most.saturating_add(1))?,
                 bad: Some(Bad {
-                    may: most,
+                    may: most.saturating_sub(1),
                     must: most,
                 }),
             });

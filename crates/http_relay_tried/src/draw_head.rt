@@ -96,23 +96,32 @@ fn framing_lines(
     for _ in 0..codings {
         lines.push(coding_line(alloc, dice)?)?;
     }
-    if framing == Framing::NoLength {
-        let value = dice.word(&["", "+3", "3, 3", "0x3", "-1", "0000000000000000003"]);
-        let says = Says::Length(None);
-        lines.push(line(dice, Name::ContentLength, copied(alloc, value)?, says))?;
-    }
-    if framing == Framing::OtherCoding {
-        let value = dice.word(&[
-            "gzip",
-            "gzip, chunked",
-            "chunked;a=1",
-            "",
-            "chunked, chunked",
-        ]);
-        let says = Says::Coding(false);
-        lines.push(line(dice, Name::TransferEncoding, copied(alloc, value)?, says))?;
+    match framing {
+        Framing::NoLength => lines.push(no_length_line(alloc, dice)?)?,
+        Framing::OtherCoding => lines.push(other_coding_line(alloc, dice)?)?,
+        _ => {}
     }
     Ok(lines)
+}
+
+/// A line whose length is none.
+fn no_length_line(alloc: Global, dice: &mut Dice) -> Result<Line, AllocError> {
+    let value = dice.word(&["", "+3", "3, 3", "0x3", "-1", "0000000000000000003"]);
+    let says = Says::Length(None);
+    Ok(line(dice, Name::ContentLength, copied(alloc, value)?, says))
+}
+
+/// A line whose coding isn't the one.
+fn other_coding_line(alloc: Global, dice: &mut Dice) -> Result<Line, AllocError> {
+    let value = dice.word(&[
+        "gzip",
+        "gzip, chunked",
+        "chunked;a=1",
+        "",
+        "chunked, chunked",
+    ]);
+    let says = Says::Coding(false);
+    Ok(line(dice, Name::TransferEncoding, copied(alloc, value)?, says))
 }
 
 /// A line that tells this length, with zeros before it.

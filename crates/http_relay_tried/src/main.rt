@@ -48,7 +48,11 @@ fn main(rt: HostRuntime) -> Result<()> {
     )?;
     match &tried.found {
         None => println!(rt; "serve_one and the model agree")?,
-        Some(found) => bail!("{found}"),
+        // An error keeps the first bytes of its text alone.
+        Some(found) => {
+            println!(rt; "{found}")?;
+            bail!("serve_one and the model differ");
+        }
     }
     for plant in PLANTS {
         let seen = seen(&rt, rt.alloc(), plant, PLANTED)?;

@@ -164,6 +164,16 @@ fn talk(
     }
 }
 
+/// All that the server would get, whose head has so many bytes.
+fn request_of(alloc: Global, round: &Round, place: &Place) -> Result<(Vec<u8>, usize), AllocError> {
+    let mut request = forwarded(alloc, round, place)?;
+    let head = request.len();
+    for byte in round.input.iter().skip(round.text.bytes.len()) {
+        request.push(*byte)?;
+    }
+    Ok((request, head))
+}
+
 /// How request and response pass.
 fn exchange(
     alloc: Global,
@@ -174,35 +184,45 @@ fn exchange(
 ) -> Result<Vec<End>, AllocError> {
     let kind = kind_of(&round.head);
     let invited = waits(&round.head, kind);
-    owed.request = forwarded(alloc, round, place)?;
-    let head = owed.request.len();
-    for byte in round.input.iter().skip(round.text.bytes.len()) {
-        owed.request.push(*byte)?;
-    }
-    let end = |due, copied, sent| End {
-        due,
-        invited,
-        copied,
-        sent,
-    };
-    if invited && round.client.takes < CONTINUE.len() {
-        let due = Outcome::Dropped(DropCause::ContinueNotTaken(round.client.refuses));
-        return Ok(vec![in alloc; end(due, 0, (0, 0))]?);
-    }
-    if server.takes < head {
-        let due = Outcome::Answered(Cause::HeadNotTaken(server.refuses));
-        return Ok(vec![in alloc; end(due, 0, (server.takes, server.takes))]?);
+    let (request, head) = request_of(alloc, round, place)?;
+    owed.request = request;
+    if let Some(end) = early_end(round, server, head, invited) {
+        return Ok(vec![in alloc; end]?);
     }
     let mut ends = Vec::new(alloc);
     for (due, (least, most)) in body_ends(alloc, round, server, head, kind)? {
         let sent = (head.saturating_add(least), head.saturating_add(most));
-        let (due, copied) = match due {
-            Some(due) => (due, 0),
-            None => response_end(round, server, invited),
+        let ((due, copied), wanted) = match due {
+            Some(due) => ((due, 0), round.came_behind()),
+            None => (response_end(round, server, invited), most),
         };
-        ends.push(end(due, copied, sent))?;
+        ends.push(End {
+            due,
+            invited,
+            copied,
+            sent,
+            wanted,
+        })?;
     }
     Ok(ends)
+}
+
+/// How it ends before the body, if it does: the client doesn't take leave to go on, or the server doesn't take the head.
+fn early_end(round: &Round, server: Peer, head: usize, invited: bool) -> Option<End> {
+    let (due, sent) = if invited && round.client.takes < CONTINUE.len() {
+        let fault = round.client.refuses;
+        (Outcome::Dropped(DropCause::ContinueNotTaken(fault)), 0)
+    } else if server.takes < head {
+        let due = Outcome::Answered(Cause::HeadNotTaken(server.refuses));
+        (due, server.takes)
+    } else {
+        return None;
+    };
+    Some(End {
+        invited,
+        sent: (sent, sent),
+        ..End::unseen(due)
+    })
 }
 
 /// How the body ends, to which a server comes that took a head of so many bytes: with a fault, or well. With each end stand the least
@@ -289,8 +309,19 @@ fn add_way(alloc: Global, round: &Round, owed: &mut Owed, end: End) -> Result<()
         outcome,
         got,
         sent: end.sent,
+        given: most_given(round, end.wanted),
     })?;
     Ok(())
+}
+
+/// How many bytes the client gives at most where so many are wanted behind its head: none behind these, but for what comes with the
+/// head's last.
+fn most_given(round: &Round, wanted: usize) -> usize {
+    let head = round.text.bytes.len();
+    let (one, other) = round.client.pieces;
+    let piece = one.max(other).max(1);
+    let with_head = head.saturating_sub(1).saturating_add(piece);
+    with_head.max(head.saturating_add(wanted))
 }
 
 /// Status and phrase of the relay's own answer.

@@ -15,6 +15,8 @@ pub(crate) struct End {
     pub(crate) copied: usize,
     /// The least and the most bytes of the request that the server got.
     pub(crate) sent: (usize, usize),
+    /// How many bytes of the client's body were wanted at most.
+    pub(crate) wanted: usize,
 }
 
 impl End {
@@ -25,6 +27,7 @@ impl End {
             invited: false,
             copied: 0,
             sent: (0, 0),
+            wanted: 0,
         }
     }
 }
@@ -35,6 +38,8 @@ pub(crate) struct Way {
     pub(crate) outcome: Outcome,
     pub(crate) got: Vec<u8>,
     pub(crate) sent: (usize, usize),
+    /// How many bytes the client gave at most.
+    pub(crate) given: usize,
 }
 
 /// What is owed for a round.

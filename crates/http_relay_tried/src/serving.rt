@@ -116,6 +116,7 @@ impl Served<'_> {
         self.outcome == way.outcome
             && self.client.written() == way.got.as_slice()
             && owed.request.starts_with(server)
+            && self.client.given() <= way.given
             && least <= server.len()
             && server.len() <= most
     }
