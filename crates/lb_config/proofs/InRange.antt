@@ -3,12 +3,13 @@ use Rattle.std.proofs.Common.{ℕ, List, [], ◌∷◌, Option, Some, None, IfSo
 use Rattle.std.proofs.lemmas.Bool.{cond_both}
 use Rattle.std.proofs.lemmas.List.Elements.{All-append, All-cons, All-head, All-nil, All-push, All-tail}
 use Rattle.check_workers_rule.specs.CheckRequests.{CheckLine}
-use Rattle.lb_config_arguments.specs.Ranges.{IsPort, IsTime}
+use Rattle.lb_config_arguments.specs.Ranges.{IsFromTo, IsPort, IsTime}
 use Rattle.lb_config_arguments.specs.declared.address.Endpoint.{Endpoint}
 use Rattle.lb_config_keywords.specs.Sections.{is_back, is_front}
 use Rattle.lb_config_keywords.specs.declared.second_word.Timeout.TheVariants as Time
 use Rattle.lb_config_keywords.specs.declared.section.Section.{Section}
 use Rattle.lb_config_keywords.specs.declared.section.Section.TheVariants as Kind
+use Rattle.lb_config_lines.specs.declared.common_line.TheConstants.{MAX_JOURNAL}
 use Rattle.lb_config_lines.specs.declared.setting.Setting.{Setting}
 use Rattle.lb_config_lines.specs.declared.setting.Setting.TheVariants as Set
 use Rattle.lb_config_parameters.specs.Options.{no_options}
@@ -30,7 +31,8 @@ use Rattle.lb_config.specs.ConfigViews.{BackendView, FrontendView}
 use Rattle.lb_config.specs.Configs.{back_at, backend_of, backends_behind, check_line_of, defaults_behind, front_at, frontend_of, frontends_behind, max_pins_of, own_place}
 use Rattle.lb_config.specs.Kept.{kept_behind, may_follow, with_kept}
 use Rattle.lb_config.specs.Ranges.{AreTimes, HasBackRanges, HasFrontRanges, HasServerRanges}
-use Rattle.lb_config.proofs.LastSaid.{HaveNumbers, all_ok, either_ok, first_number, last_ok, more_numbers, or_default}
+use Rattle.lb_config.specs.SaidInRange.{AreDefaults, HaveNumbers}
+use Rattle.lb_config.proofs.LastSaid.{all_ok, either_ok, first_number, last_ok, more_numbers, or_default}
 
 client_ok : (setting : Setting) → HasNumbers setting → IfSome (client_time setting) IsTime
 client_ok (Set.Timeout Time.Client millis) is = is
@@ -86,21 +88,16 @@ default_options_ok options (numbered ∷ more) are is =
     default_options_ok (with_default options numbered.setting) more (more_numbers numbered more are)
     (default_ok options numbered.setting (first_number numbered more are) is)
 
--- what a `defaults` section says
-pub record AreDefaults (defaults : Defaults) : Type 0 where
-  pub timeouts : AreTimes defaults.values.timeouts
-  pub interval : IfSome defaults.servers.interval IsTime
-
 pub nothing_said : AreDefaults no_defaults
 nothing_said = record { timeouts = no_times; interval = tt }
 
-defaults_of_ok : (settings : List NumberedSetting) → HaveNumbers settings → AreDefaults (defaults_of settings)
+pub defaults_of_ok : (settings : List NumberedSetting) → HaveNumbers settings → AreDefaults (defaults_of settings)
 defaults_of_ok settings are = record {
   timeouts = times_ok no_timeouts settings are no_times;
   interval = default_options_ok no_options settings are tt;
 }
 
-pub defaults_behind_ok : (defaults : Defaults) (kind : Section) (settings : List NumberedSetting) → HaveNumbers settings →
+defaults_behind_ok : (defaults : Defaults) (kind : Section) (settings : List NumberedSetting) → HaveNumbers settings →
     AreDefaults defaults → AreDefaults (defaults_behind defaults kind settings)
 defaults_behind_ok defaults Kind.Defaults settings are is = defaults_of_ok settings are
 defaults_behind_ok defaults _ settings are is = is
@@ -136,9 +133,11 @@ kept_ok front (server ∷ more) are rest =
     (All-tail HasServerRanges server more rest)
 
 pub backend_ok : (basis : BasisView) (defaults : Defaults) (name : List ℕ) (settings : List NumberedSetting) →
-    HaveNumbers settings → AreDefaults defaults → HasBackRanges (backend_of basis defaults name settings)
-backend_ok basis defaults name settings are is = record {
+    IsFromTo 1 MAX_JOURNAL basis.journal → HaveNumbers settings → AreDefaults defaults →
+    HasBackRanges (backend_of basis defaults name settings)
+backend_ok basis defaults name settings journal are is = record {
   timeouts = times_ok defaults.values.timeouts settings are is.timeouts;
+  journal = journal;
   servers = kept_ok [] (servers_behind (max_pins_of settings) (check_line_of defaults settings) defaults.servers settings)
       (All-nil HasServerRanges)
       (servers_behind_ok (max_pins_of settings) (check_line_of defaults settings) defaults.servers settings are is.interval);
@@ -163,12 +162,13 @@ front_at_ok basis defaults kind (Some name) settings are is =
     (λ e. All-nil HasFrontRanges)
 
 back_at_ok : (basis : BasisView) (defaults : Defaults) (kind : Section) (name : Option (List ℕ)) (settings : List NumberedSetting) →
-    HaveNumbers settings → AreDefaults defaults → All HasBackRanges (option_to_list (back_at basis defaults kind name settings))
-back_at_ok basis defaults kind None settings are is = All-nil HasBackRanges
-back_at_ok basis defaults kind (Some name) settings are is =
+    IsFromTo 1 MAX_JOURNAL basis.journal → HaveNumbers settings → AreDefaults defaults →
+    All HasBackRanges (option_to_list (back_at basis defaults kind name settings))
+back_at_ok basis defaults kind None settings journal are is = All-nil HasBackRanges
+back_at_ok basis defaults kind (Some name) settings journal are is =
     cond_both (is_back kind) _ _ (λ (o : Option BackendView). All HasBackRanges (option_to_list o))
     (λ e. All-cons HasBackRanges (backend_of basis defaults name settings) []
-    (backend_ok basis defaults name settings are is) (All-nil HasBackRanges))
+    (backend_ok basis defaults name settings journal are is) (All-nil HasBackRanges))
     (λ e. All-nil HasBackRanges)
 
 section_numbers : (section : SectionView) (more : List SectionView) → OfEachSetting (λ section. HasNumbers) (section ∷ more) →
@@ -194,13 +194,14 @@ frontends_ok basis defaults (section ∷ more) are is =
     (defaults_behind_ok defaults section.header.section section.settings here is))
 
 pub backends_ok : (basis : BasisView) (defaults : Defaults) (sections : List SectionView) →
-    OfEachSetting (λ section. HasNumbers) sections → AreDefaults defaults → All HasBackRanges (backends_behind basis defaults sections)
-backends_ok basis defaults [] are is = All-nil HasBackRanges
-backends_ok basis defaults (section ∷ more) are is =
+    IsFromTo 1 MAX_JOURNAL basis.journal → OfEachSetting (λ section. HasNumbers) sections → AreDefaults defaults →
+    All HasBackRanges (backends_behind basis defaults sections)
+backends_ok basis defaults [] journal are is = All-nil HasBackRanges
+backends_ok basis defaults (section ∷ more) journal are is =
     let here = section_numbers section more are in
     let next = defaults_behind defaults section.header.section section.settings in
     All-append HasBackRanges (option_to_list (back_at basis defaults section.header.section section.header.name section.settings))
     (backends_behind basis next more)
-    (back_at_ok basis defaults section.header.section section.header.name section.settings here is)
-    (backends_ok basis next more (more_sections section more are)
+    (back_at_ok basis defaults section.header.section section.header.name section.settings journal here is)
+    (backends_ok basis next more journal (more_sections section more are)
     (defaults_behind_ok defaults section.header.section section.settings here is))

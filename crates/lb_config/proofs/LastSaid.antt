@@ -7,10 +7,7 @@ use Rattle.lb_config_lines.specs.declared.setting.Setting.{Setting}
 use Rattle.lb_config_sections.specs.declared.config_section.NumberedSetting.{NumberedSetting}
 use Rattle.lb_config_values.specs.Values.{last_said, said}
 use Rattle.lb_config_valid.specs.Numbers.{HasNumbers}
-
--- the numbers of all settings of a section are in their ranges
-abbrev pub HaveNumbers : List NumberedSetting → Type 0
-HaveNumbers settings = All (λ numbered. HasNumbers numbered.setting) settings
+use Rattle.lb_config.specs.SaidInRange.{HaveNumbers}
 
 pub first_number : (numbered : NumberedSetting) (more : List NumberedSetting) → HaveNumbers (numbered ∷ more) → HasNumbers numbered.setting
 first_number numbered more are = All-head (λ (one : NumberedSetting). HasNumbers one.setting) numbered more are

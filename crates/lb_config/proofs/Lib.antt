@@ -2,6 +2,7 @@ pub mod Backends
 pub mod Distinct
 pub mod InRange
 pub mod LastSaid
+pub mod LimitsInRange
 pub mod Places
 pub mod ProxiesSoFarLaws
 pub mod Steps

@@ -135,10 +135,6 @@ backends_ok P basis is defaults (section ∷ more) =
 pub backends_want : (basis : BasisView) (defaults : Defaults) (sections : List SectionView) → All WantsOwn (backends_behind basis defaults sections)
 backends_want basis defaults sections = backends_ok WantsOwn basis (backend_wants basis) defaults sections
 
-pub same_journals : (P : ℕ → Type 0) (basis : BasisView) (defaults : Defaults) (sections : List SectionView) → P basis.journal →
-    All (λ (backend : BackendView). P backend.journal) (backends_behind basis defaults sections)
-same_journals P basis defaults sections is = backends_ok (λ backend. P backend.journal) basis (λ defaults name settings. is) defaults sections
-
 -- the names of the backends are those of the sections
 own_name : (basis : BasisView) (defaults : Defaults) (kind : Section) (name : Option (List ℕ)) (settings : List NumberedSetting) →
     names_of (option_to_list (back_at basis defaults kind name settings)) ≡ option_to_list (name_of_kind kind name)

@@ -8,4 +8,5 @@ pub mod Limits
 pub mod ProxiesSoFar
 pub mod ProxiesSoFarView
 pub mod Ranges
+pub mod SaidInRange
 pub mod ValidConfigs

@@ -1,7 +1,11 @@
-ghost use Rattle.std.specs.Prelude.{◌≡◌};
+ghost use Rattle.std.specs.Prelude.{◌≡◌, IfSome, All};
 ghost use Rattle.std.specs.Str.{bytes_eq};
+ghost use Rattle.lb_config_arguments.specs.Ranges.{IsFromTo, IsTime};
+ghost use Rattle.lb_config_lines.specs.declared.common_line.TheConstants.{MAX_JOURNAL};
+ghost use Rattle.lb_config_parameters.specs.Ranges.{IsTable};
 ghost use Rattle.lb_config.specs.Kept.{IsServers};
 ghost use Rattle.lb_config.specs.Limits.{limit_of, queue_limit, probe_limit};
+ghost use Rattle.lb_config.specs.Ranges.{HasServerRanges, IsLimit};
 
 use lb_config_rules::BackRules;
 use lb_config_values::{ServerConfig, Timeouts};
@@ -39,9 +43,19 @@ impl Model for BackendConfig {
       rules = backend.rules;
     } };
 
-    ghost use Rattle.lb_config.specs.Kept.{IsServers};
+    ghost use Rattle.lb_config.specs.ValidConfigs.{IsBackend};
 
-    ghost invariant = { λ backend. IsServers backend.servers.items };
+    ghost invariant = { λ backend. IsBackend (record {
+      name = backend.name;
+      balance = backend.balance;
+      all_backups = backend.all_backups;
+      evacuate = backend.evacuate;
+      forward_for = backend.forward_for;
+      timeouts = backend.timeouts;
+      journal = backend.journal;
+      servers = backend.servers.items;
+      rules = backend.rules;
+    }) };
 }
 
 impl BackendConfig {
@@ -89,43 +103,51 @@ impl BackendConfig {
 
     /// How many entries its journal keeps, 1 to 1000000.
     pub fn journal(&self) -> u32
-        ensures { result ≡ self.now.journal }
+        ensures exact { result ≡ self.now.journal }
+        ensures in_range { IsFromTo 1 MAX_JOURNAL result }
     {
         self.journal
     }
 
-    /// The servers, in their order: at most 128, with distinct names.
+    /// The servers, in their order: at most 128, with distinct names. Their ports, which their checks use too, are 1 to 65535, and
+    /// between two checks stand at most 2147483647 milliseconds.
     pub fn servers(&self) -> &[ServerConfig]
         ensures exact { result.now ≡ self.now.servers }
         ensures lawful { IsServers self.now.servers }
+        ensures ranges { All HasServerRanges self.now.servers }
     {
         &self.servers
     }
 
-    /// The table, the key of its pins, and the rules on servers and costs.
+    /// The table, the key of its pins, and the rules on servers and costs. The table has 1 to 16777216 places and keys of 1 to 1024
+    /// bytes, and its pins go after at most 2147483647 milliseconds.
     pub fn rules(&self) -> &BackRules
-        ensures { result.now ≡ self.now.rules }
+        ensures exact { result.now ≡ self.now.rules }
+        ensures table { IfSome self.now.rules.table IsTable }
     {
         &self.rules
     }
 
-    /// How many milliseconds a dial may take, if there is a limit.
+    /// How many milliseconds a dial may take, 1 to 2147483647, if there is a limit.
     pub fn connect_limit(&self) -> Option<u32>
-        ensures { result ≡ limit_of self.now.timeouts.connect }
+        ensures exact { result ≡ limit_of self.now.timeouts.connect }
+        ensures in_range { IfSome result IsLimit }
     {
         limit_of(self.timeouts.connect)
     }
 
-    /// How many milliseconds one read from a server may take, if there is a limit.
+    /// How many milliseconds one read from a server may take, 1 to 2147483647, if there is a limit.
     pub fn server_limit(&self) -> Option<u32>
-        ensures { result ≡ limit_of self.now.timeouts.server }
+        ensures exact { result ≡ limit_of self.now.timeouts.server }
+        ensures in_range { IfSome result IsLimit }
     {
         limit_of(self.timeouts.server)
     }
 
-    /// How many milliseconds a request waits for a connection, if there is a limit. With 0 it doesn't wait.
+    /// How many milliseconds a request waits for a connection, at most 2147483647, if there is a limit. With 0 it doesn't wait.
     pub fn queue_limit(&self) -> Option<u32>
-        ensures { result ≡ queue_limit self.now.timeouts }
+        ensures exact { result ≡ queue_limit self.now.timeouts }
+        ensures in_range { IfSome result IsTime }
     {
         match self.timeouts.queue {
             Some(millis) => Some(millis),
@@ -133,9 +155,11 @@ impl BackendConfig {
         }
     }
 
-    /// How many milliseconds one whole check of the server may take, if there is a limit.
+    /// How many milliseconds one whole check of the server may take, if there is a limit: 1 to 2147483647, where the server's
+    /// `inter` is a time, as that of each server of the backend is.
     pub fn probe_limit(&self, server: &ServerConfig) -> Option<u32>
-        ensures { result ≡ probe_limit self.now.timeouts server.now.interval }
+        ensures exact { result ≡ probe_limit self.now.timeouts server.now.interval }
+        ensures in_range { IsTime server.now.interval → IfSome result IsLimit }
     {
         match limit_of(self.timeouts.check) {
             Some(millis) => Some(millis),
@@ -145,8 +169,10 @@ impl BackendConfig {
 }
 
 /// The limit of a time: none where it isn't said, or is 0.
+#[tactic(auto, using(crate::proofs::LimitsInRange::limit_ok))]
 pub(crate) fn limit_of(time: Option<u32>) -> Option<u32>
-    ensures { result ≡ limit_of time }
+    ensures exact { result ≡ limit_of time }
+    ensures in_range { IfSome time IsTime → IfSome result IsLimit }
 {
     match time {
         Some(0) => None,

@@ -2,7 +2,7 @@ ghost use Rattle.std.specs.Prelude.{◌≡◌, length, IfSome, All};
 ghost use Rattle.std.specs.Option.{option_copied};
 ghost use Rattle.lb_config_arguments.specs.Ranges.{IsFromTo};
 ghost use Rattle.lb_config_limits.specs.declared.declarations.TheConstants.{MAX_BACKENDS};
-ghost use Rattle.lb_config_lines.specs.declared.common_line.TheConstants.{MAX_JOURNAL, MAX_RELAYS, MAX_TRIES};
+ghost use Rattle.lb_config_lines.specs.declared.common_line.TheConstants.{MAX_RELAYS, MAX_TRIES};
 ghost use Rattle.lb_config_valid.specs.Names.{AreNames};
 ghost use Rattle.lb_config_valid.specs.Numbers.{IsSocket};
 ghost use Rattle.lb_config.specs.Ranges.{HasBackRanges, HasFrontRanges};
@@ -85,12 +85,11 @@ impl Config {
     }
 
     /// The backends, sections `listen` among them, in their order: at most 64, with distinct names. The servers that their rules
-    /// name exist. Their times, and those of their servers and tables, are at most 2147483647 milliseconds, and the servers' ports
-    /// 1 to 65535.
+    /// name exist. Their times, and those of their servers and tables, are at most 2147483647 milliseconds, the servers' ports 1 to
+    /// 65535, and their journals of 1 to 1000000 entries.
     pub fn backends(&self) -> &[BackendConfig]
         ensures exact { result.now ≡ self.now.backends }
         ensures names { AreNames MAX_BACKENDS (names_of self.now.backends) }
-        ensures journals { All (λ backend. IsFromTo 1 MAX_JOURNAL backend.journal) self.now.backends }
         ensures ranges { All HasBackRanges self.now.backends }
         ensures wants { All WantsOwn self.now.backends }
     {

@@ -1,6 +1,8 @@
-ghost use Rattle.std.specs.Prelude.{◌≡◌};
+ghost use Rattle.std.specs.Prelude.{◌≡◌, IfSome, All};
+ghost use Rattle.lb_config_arguments.specs.Ranges.{IsPort};
 ghost use Rattle.lb_config.specs.Limits.{limit_of};
 ghost use Rattle.lb_config.specs.Fronts.{backend_of};
+ghost use Rattle.lb_config.specs.Ranges.{IsLimit};
 
 use crate::backend::limit_of;
 use lb_acl::Head;
@@ -30,6 +32,16 @@ impl Model for Frontend {
       default_backend = frontend.default_backend;
       rules = frontend.rules;
     } };
+
+    ghost use Rattle.lb_config.specs.Ranges.{HasFrontRanges};
+
+    ghost invariant = { λ frontend. HasFrontRanges (record {
+      name = frontend.name;
+      forward_for = frontend.forward_for;
+      client_time = frontend.client_time;
+      default_backend = frontend.default_backend;
+      rules = frontend.rules;
+    }) };
 }
 
 impl Frontend {
@@ -47,16 +59,18 @@ impl Frontend {
         self.forward_for
     }
 
-    /// How many milliseconds one read from a client may take, if there is a limit.
+    /// How many milliseconds one read from a client may take, 1 to 2147483647, if there is a limit.
     pub fn client_limit(&self) -> Option<u32>
-        ensures { result ≡ limit_of self.now.client_time }
+        ensures exact { result ≡ limit_of self.now.client_time }
+        ensures in_range { IfSome result IsLimit }
     {
         limit_of(self.client_time)
     }
 
-    /// Where it listens, and its rules `use_backend`.
+    /// Where it listens, at ports of 1 to 65535, and its rules `use_backend`.
     pub fn rules(&self) -> &FrontRules
-        ensures { result.now ≡ self.now.rules }
+        ensures exact { result.now ≡ self.now.rules }
+        ensures ports { All (λ endpoint. IsPort endpoint.port) self.now.rules.binds }
     {
         &self.rules
     }

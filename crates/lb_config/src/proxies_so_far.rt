@@ -2,7 +2,10 @@ ghost use Rattle.std.specs.Prelude.{◌≡◌, IfOk, OnOk};
 ghost use Rattle.lb_config_values.specs.DefaultsLines.{no_defaults};
 ghost use Rattle.lb_config.specs.Configs.{backends_behind, frontends_behind, own_place};
 ghost use Rattle.lb_config_keywords.specs.Sections.{is_back, is_front};
+ghost use Rattle.lb_config_valid.specs.Numbers.{HasNumbers};
+ghost use Rattle.lb_config_valid.specs.Valid.{OfEachSetting};
 ghost use Rattle.lb_config.specs.ProxiesSoFar.{no_proxies, with_proxy, with_section, with_sections};
+ghost use Rattle.lb_config.specs.SaidInRange.{HaveNumbers};
 
 use crate::proxy::{Basis, read_proxy};
 use crate::{BackendConfig, Frontend};
@@ -33,6 +36,10 @@ impl Model for ProxiesSoFar {
       frontends = draft.frontends.items;
       backends = draft.backends.items;
     } };
+
+    ghost use Rattle.lb_config.specs.SaidInRange.{AreDefaults};
+
+    ghost invariant = { λ draft. AreDefaults draft.defaults };
 }
 
 impl ProxiesSoFar {
@@ -48,6 +55,7 @@ impl ProxiesSoFar {
 
     /// The proxies of the sections.
     fn of(alloc: Global, basis: &Basis, sections: Vec<ConfigSection>) -> Result<Self, AllocError>
+        requires { OfEachSetting (λ section. HasNumbers) sections.items }
         ensures { IfOk result (λ draft. draft ≡ with_sections basis.now no_proxies sections.items) }
     {
         let mut draft = ProxiesSoFar::none(alloc);
@@ -77,6 +85,7 @@ impl ProxiesSoFar {
         basis: &Basis,
         section: ConfigSection,
     ) -> Result<(), AllocError>
+        requires { HaveNumbers section.settings }
         ensures { OnOk result (self.new ≡ with_section basis.now self.old section) }
     {
         let Header {
@@ -86,7 +95,8 @@ impl ProxiesSoFar {
         let settings = section.into_settings();
         match kind {
             Section::Defaults => {
-                self.defaults = Defaults::of(alloc, &settings)?;
+                let defaults = Defaults::of(alloc, &settings)?;
+                self.defaults = defaults;
                 Ok(())
             }
             _ => self.take_proxy(alloc, basis, kind, name, settings),
@@ -101,6 +111,7 @@ impl ProxiesSoFar {
         name: Option<Name>,
         settings: Vec<NumberedSetting>,
     ) -> Result<(), AllocError>
+        requires { HaveNumbers settings.items }
         ensures { OnOk result (self.new ≡ with_proxy basis.now self.old kind name settings.items) }
     {
         let Some(name) = name else {
@@ -124,6 +135,7 @@ pub(crate) fn read_proxies(
     basis: &Basis,
     sections: Vec<ConfigSection>,
 ) -> Result<(Vec<Frontend>, Vec<BackendConfig>), AllocError>
+    requires { OfEachSetting (λ section. HasNumbers) sections.items }
     ensures frontends { IfOk result (λ two. two.0.items ≡ frontends_behind basis.now no_defaults sections.items) }
     ensures backends { IfOk result (λ two. two.1.items ≡ backends_behind basis.now no_defaults sections.items) }
 {

@@ -2,6 +2,7 @@ ghost use Rattle.std.specs.Prelude.{◌≡◌, ◌≤◌, IfOk};
 ghost use Rattle.std.specs.Option.{ForSome, option_or};
 ghost use Rattle.lb_types.specs.declared.limits.TheConstants.{MAX_PINS};
 ghost use Rattle.lb_config.specs.Kept.{IsServers};
+ghost use Rattle.lb_config.specs.SaidInRange.{AreDefaults, HaveNumbers};
 ghost use Rattle.lb_config.specs.Configs.{backend_of, frontend_of, max_pins_of, optional_place, servers_of, size_in, values_of};
 
 use crate::kept::kept_servers;
@@ -20,16 +21,20 @@ use std::marker::Model;
 pub(crate) struct Basis {
     /// The names of all backends, in their order.
     pub(crate) backends: Vec<Name>,
-    /// How many entries a journal keeps.
+    /// How many entries a journal keeps, 1 to 1000000.
     pub(crate) journal: u32,
 }
 
 impl Model for Basis {
+    ghost use Rattle.lb_config_arguments.specs.Ranges.{IsFromTo};
+    ghost use Rattle.lb_config_lines.specs.declared.common_line.TheConstants.{MAX_JOURNAL};
     ghost use Rattle.lb_config.specs.BasisView.{BasisView};
 
     ghost Value = { BasisView };
 
     ghost view = { λ basis. record { backends = basis.backends.items; journal = basis.journal } };
+
+    ghost invariant = { λ basis. IsFromTo 1 MAX_JOURNAL basis.journal };
 }
 
 /// A section as the frontend that it is, and as the backend.
@@ -41,6 +46,8 @@ pub(crate) fn read_proxy(
     name: Name,
     settings: Vec<NumberedSetting>,
 ) -> Result<(Frontend, BackendConfig), AllocError>
+    requires defaults { AreDefaults defaults.now }
+    requires settings { HaveNumbers settings.items }
     ensures front { IfOk result (λ two. two.0 ≡ frontend_of basis.now defaults.now own name settings.items) }
     ensures back { IfOk result (λ two. two.1 ≡ backend_of basis.now defaults.now name settings.items) }
 {

@@ -38,7 +38,8 @@ fn config_of(alloc: Global, sections: Sections) -> Result<Config, AllocError>
     let (relays, tries, journal) = (globals.relays(), globals.tries(), globals.journal());
     let socket = copied_address(alloc, globals.socket())?;
     let backends = backend_names(alloc, &sections)?;
-    let (frontends, backends) = read_proxies(alloc, &Basis { backends, journal }, sections)?;
+    let basis = Basis { backends, journal };
+    let (frontends, backends) = read_proxies(alloc, &basis, sections)?;
     Ok(Config {
         relays,
         tries,

@@ -1,4 +1,4 @@
-ghost use Rattle.std.specs.Prelude.{◌<◌, IfOk};
+ghost use Rattle.std.specs.Prelude.{IfOk};
 ghost use Rattle.lb_desk.specs.Opened.{AnswersAs, OpensAs};
 
 use lb_config::BackendConfig;
@@ -19,7 +19,6 @@ pub fn open<S: BuildHasher + Drop>(
     config: &BackendConfig,
     hasher: S,
 ) -> Result<Desk<S>, AllocError>
-    requires { 0 < config.now.journal }
     ensures { IfOk result (λ desk. OpensAs config.now desk) }
 {
     let backend = backend_of(alloc, config)?;

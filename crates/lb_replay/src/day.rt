@@ -1,4 +1,4 @@
-ghost use Rattle.std.specs.Prelude.{◌≡◌, ◌<◌, [], OnOk, IfOk};
+ghost use Rattle.std.specs.Prelude.{◌≡◌, [], OnOk, IfOk};
 ghost use Rattle.std.specs.Option.{option_copied};
 ghost use Rattle.lb_desk_step.specs.Desk.{StandsAt};
 ghost use Rattle.dual_cert.specs.PlanTexts.{plan_of_text};
@@ -42,7 +42,6 @@ impl<H: BuildHasher> Model for Day<H> {
 impl<H: BuildHasher + Drop> Day<H> {
     /// The day before the script's first line.
     pub(crate) fn open(alloc: Global, farm: &Farm<'_>, hasher: H) -> Result<Self, AllocError>
-        requires { 0 < farm.now.own.journal }
         ensures opening { IfOk result (λ day. day ≡ opening_day farm.now) }
         ensures stands { IfOk result (λ day. StandsAt farm.now.backend [] day.desk) }
     {

@@ -1,6 +1,4 @@
-ghost use Rattle.std.specs.Prelude.{◌≡◌, ◌<◌, [], All, IfOk};
-ghost use Rattle.lb_config_arguments.specs.Ranges.{IsFromTo};
-ghost use Rattle.lb_config_lines.specs.declared.common_line.TheConstants.{MAX_JOURNAL};
+ghost use Rattle.std.specs.Prelude.{◌≡◌, [], IfOk};
 ghost use Rattle.lb_desk_backend.specs.Configured.{IsBackendOf};
 ghost use Rattle.lb_run_desks.specs.NewDesks.{Open};
 
@@ -37,7 +35,6 @@ impl<S: BuildHasher> Model for NewDesk<S> {
 impl<S: BuildHasher + Drop> NewDesk<S> {
     /// Opens the backend. Its journal takes its memory here, whole. Want of memory is the one error.
     pub fn open(alloc: Global, config: &BackendConfig, hasher: S) -> Result<Self, AllocError>
-        requires { 0 < config.now.journal }
         ensures { IfOk result (λ new. IsBackendOf config.now new.backend) }
     {
         let table = Opened::new(alloc)?;
@@ -73,7 +70,6 @@ pub fn new_desks(
     backends: &[BackendConfig],
     hasher: RandomState,
 ) -> Result<Vec<NewDesk<RandomState>>, AllocError>
-    requires { All (λ backend. IsFromTo 1 MAX_JOURNAL backend.journal) backends.now }
     ensures { IfOk result (λ desks. Open backends.now desks.items) }
 {
     let mut desks = Vec::with_capacity(alloc, backends.len())?;

@@ -26,7 +26,7 @@ said backend moment word more number key asked from to number_is key_is asked_is
 pub returns : goal.returns
 returns c =
     let key_is : asked_key c.args.backend.now.rules.table c.in-Some-next_part.word.now ≡ Some c.in-Some-2.key =
-    rw (← c.rules.ensures, ← c.table.ensures) (sym c.in_ok-key.ensures ∙ c.in-Some-2.is) in
+    rw (← c.rules.ensures.exact, ← c.table.ensures) (sym c.in_ok-key.ensures ∙ c.in-Some-2.is) in
     let asked_is : asked_in c.args.backend.now.servers c.next_part-2.new.self ≡ Some c.in-Some-3.asked =
     rw (← c.servers.ensures.exact) (sym c.in_ok-asked.ensures ∙ c.in-Some-3.is) in
     let number_is : number_in c.in-Some.moment.now ≡ Some c.in-Some-read_number.moment = sym c.in-Some-read_number.ensures in

@@ -1,9 +1,20 @@
-use Rattle.std.proofs.Common.{sym, ap, ◌∙◌, rules, map-id}
+use Rattle.std.proofs.Common.{length, sym, ap, subst, ◌∙◌, rules, map-id}
 use Rattle.std.proofs.lemmas.Iterator.Adapters.{YieldsList-from_vec}
-use Rattle.std.proofs.lemmas.Iterator.Consumers.{YieldsList-end}
+use Rattle.std.proofs.lemmas.Iterator.Consumers.{YieldsList-end, YieldsList-turn}
+use Rattle.std.proofs.lemmas.List.Elements.{All-get_or}
+use Rattle.lb_config_sections.specs.SectionView.{SectionView}
 use Rattle.lb_config.specs.ProxiesSoFar.{no_proxies, with_section}
+use Rattle.lb_config.specs.SaidInRange.{HaveNumbers}
 use Rattle.lb_config.proofs.Steps.{sections_push}
 use Rattle.lb_config.proofs.proxies_so_far.ProxiesSoFar.of.Goals as goal
+
+pub take-requires : goal.take-requires
+take-requires c =
+    let l = c.loop-section in
+    let turn = YieldsList-turn (YieldsList-from_vec {s = c.into_iter-section-iterator.result} c.args.sections.items (search rules) (search rules))
+    l.yielded l.section-iterator l.yielded_by c.next.result c.next.new.self c.in-Some.section c.in-Some.is c.next.ensures.steps in
+    subst (λ (section : SectionView). HaveNumbers section.settings) (sym turn.1)
+    (All-get_or (λ (section : SectionView). HaveNumbers section.settings) c.args.sections.items (length l.yielded) c.in-Some.section turn.0 c.requires)
 
 pub loop-section-preserved : goal.loop-section-preserved
 loop-section-preserved c =
