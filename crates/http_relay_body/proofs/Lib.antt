@@ -7,3 +7,4 @@ pub mod Moves
 pub mod Parts
 pub mod Rooms
 pub mod Sights
+pub mod Walks

@@ -4,7 +4,6 @@ use Rattle.std.proofs.lemmas.List.{take-append-le, take-append-drop}
 use Rattle.std.proofs.Math.Seq.{take-append_seam, drop-append_seam}
 use Rattle.std.specs.List.{flat_map}
 use Rattle.httparse.specs.Grammar.{ChunkLine, IsChunkLine, print_chunk_line, HasNoChunkLine, NeverHasChunkLine, LineEnd, crlf, lf, print_end, print_extension, print_field, print_section, HasNoSection}
-use Rattle.httparse.specs.Spans.{SectionOverflows}
 use Rattle.http_relay_body.specs.Moves.{Begins, NeverBegins}
 use Rattle.http_relay_body.specs.Parts.{IsSizeText, IsTrailerText}
 
@@ -40,12 +39,6 @@ never_size text never more = none_size (text ++ more) (never more)
 
 pub none_trailer : {A : Type 0} (text : List ℕ) → HasNoSection text → ¬ Begins (IsTrailerText {A = A}) text
 none_trailer text none (_, front, rest, (fields, end, ok, is), parted) = none fields end rest (ok.form, parted ∙ ap (λ xs. xs ++ rest) is)
-
--- too many fields stand there
-pub over_trailer : {A : Type 0} (text : List ℕ) → SectionOverflows 100 text → NeverBegins (IsTrailerText {A = A}) text
-over_trailer text over more (_, front, rest, (fields, end, ok, is), parted) =
-    let many = over more fields end rest (ok.form, parted ∙ ap (λ xs. xs ++ rest) is) in
-    absurd (omega (arith, many, ok.few))
 
 -- a line end ends with a line feed
 pub feed_of : (end : LineEnd) → (front : List ℕ) × (print_end end ≡ front ++ 10 ∷ [])

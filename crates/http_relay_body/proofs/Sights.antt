@@ -1,17 +1,15 @@
 -- What is seen of a part, and how many bytes must still come.
-use Rattle.std.proofs.Common.{◌≡◌, ◌≢◌, ◌⊎◌, inl, inr, ℕ, zero, suc, ◌+◌, ◌*◌, ◌-◌, ◌<◌, ◌≤◌, true, List, [], ◌∷◌, ◌++◌, length, length-append, length-drop, length-take, take, drop, get_or, refl, ap, sym, ◌∙◌, subst, arith, append_assoc, append-nil, take-append-drop, le_refl, le_trans, zero-add}
+use Rattle.std.proofs.Common.{◌≡◌, ◌≢◌, ◌⊎◌, inl, inr, ℕ, zero, suc, ◌+◌, ◌*◌, ◌-◌, ◌<◌, ◌≤◌, true, List, [], ◌∷◌, ◌++◌, length, length-append, length-drop, take, drop, get_or, refl, ap, sym, ◌∙◌, subst, arith, append_assoc, append-nil, take-append-drop, le_refl, le_trans}
 use Rattle.std.proofs.lemmas.Bool.{cases_lt}
-use Rattle.std.proofs.lemmas.List.{length-map, take-take, length-take-le}
+use Rattle.std.proofs.lemmas.List.{take-take, length-take-le}
 use Rattle.std.proofs.lemmas.List.Elements.{All-head, All-tail, All-push}
 use Rattle.std.proofs.Math.Seq.{take-append_seam, get_or-append_seam}
 use Rattle.std.specs.Char.{is_ascii_hexdigit, digit_value}
 use Rattle.std.specs.Str.Parse.{digits_value, digits_value_after}
 use Rattle.httparse.specs.Ascii.{crlf_bytes}
-use Rattle.httparse.specs.Grammar.{AllPass, ChunkLine, IsChunkLine, print_chunk_line, chunk_size, HasNoChunkLine, Field, LineEnd, crlf, print_end, print_extension, print_section}
+use Rattle.httparse.specs.Grammar.{AllPass, ChunkLine, IsChunkLine, print_chunk_line, chunk_size, HasNoChunkLine, crlf, print_end, print_extension, print_section}
 use Rattle.httparse.specs.Pieces.{Stops}
-use Rattle.httparse.specs.Spans.{IsChunkLineAt, IsSectionAt, header_bytes, name_and_value}
-use Rattle.httparse.specs.declared.spans.HeaderSpan.{HeaderSpan}
-use Rattle.httparse.proofs.GrammarLemmas.{section_unique, ReadsSection-append}
+use Rattle.httparse.specs.Spans.{IsChunkLineAt}
 use Rattle.httparse.proofs.ChunkLemmas.{chunk_pieces, chunk_line_unique, ReadsChunkLine-append}
 use Rattle.http_relay_body.specs.declared.chunks.part.Part.{Part}
 use Rattle.http_relay_body.specs.declared.chunks.part.Part.TheVariants.{SizeLine, DataEnd, Trailer}
@@ -219,28 +217,3 @@ end_begun [] one first = absurd (omega (arith, one))
 end_begun (x ∷ []) one first =
     (short_end (x ∷ []) (omega arith), omega arith, omega arith, end_must (x ∷ []) refl, (0, 10 ∷ [], ap (λ b. b ∷ 10 ∷ []) first))
 end_begun (x ∷ y ∷ text) one first = absurd (omega (arith, one))
-
--- ---- trailers
-
--- the trailer that was found
-pub found_trailer : (text : List ℕ) (headers : List HeaderSpan) (len count : ℕ) (fields : List Field) (end : LineEnd)
-    → length headers ≡ 100 → IsSectionAt text 0 headers len count fields end → len ≤ 8192 → (len ≤ length text) × IsPartText Trailer 0 (take len text)
-found_trailer text headers len count fields end places at short =
-    let section = print_section fields end in
-    let sizes = ap length at.reads.1 ∙ length-append section (drop len text) in
-    let pairs = sym (length-map (take count headers) (header_bytes text)) ∙ ap length at.fields_are ∙ length-map fields name_and_value in
-    let taken = length-take count headers in
-    let len_is : len ≡ length section = at.len_is ∙ zero-add (length section) in
-    let is : take len text ≡ section = ap (λ n. take n text) len_is ∙ ap (take (length section)) at.reads.1 ∙ take-append_seam section (drop len text) in (
-      omega (arith, sizes, len_is),
-      (fields, end, record { form = at.reads.0; few = omega (arith, pairs, taken, places); short = omega (arith, len_is, short) }, is),
-    )
-
--- a longer one than may be stands there
-pub long_trailer : (text : List ℕ) (headers : List HeaderSpan) (len count : ℕ) (fields : List Field) (end : LineEnd)
-    → IsSectionAt text 0 headers len count fields end → 8192 < len → NeverBegins (IsPartText Trailer) text
-long_trailer text headers len count fields end at long more (value, front, rest, (others, last, ok, is), parted) =
-    let same = section_unique (text ++ more) fields others end last (drop len text ++ more) rest
-    (ReadsSection-append text fields end (drop len text) more at.reads) (ok.form, parted ∙ ap (λ xs. xs ++ rest) is) in
-    let sections : print_section fields end ≡ print_section others last = ap (λ fs. print_section fs end) same.0 ∙ ap (λ e. print_section others e) same.1 in
-    absurd (omega (arith, long, at.len_is, ok.short, ap length sections))

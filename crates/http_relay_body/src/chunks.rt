@@ -16,8 +16,8 @@ use crate::fault::BodyFault;
 use http_relay_wire::Wire;
 
 /// Passes on a chunked body. In the usual case a chunk costs one read and one write: as much is read at once as must still come, so
-/// that no byte behind the body is read, and what was judged goes out together before the next read. Size lines and trailers
-/// cost a walk over what has come of them at each read, since nothing is waited for behind a bad one.
+/// that no byte behind the body is read, and what was judged goes out together before the next read. Since nothing is waited for
+/// behind a bad line, a size line costs a walk over what has come of it at each read; of a trailer each byte is looked at once.
 pub(crate) fn pass_chunks<C: Wire, S: Wire>(
     at_hand: &mut AtHand<'_>,
     client: &mut C,

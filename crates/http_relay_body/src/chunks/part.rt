@@ -2,12 +2,14 @@ ghost use Rattle.std.specs.Prelude.{◌≡◌, ◌+◌, ◌<◌, ◌≤◌, leng
 ghost use Rattle.http_relay_body.specs.Moves.{client_faults, server_faults};
 ghost use Rattle.http_relay_body.specs.Parts.{IsPartText, least_from, least_behind};
 ghost use Rattle.http_relay_body.specs.Rooms.{stand, Passed, Sees};
+ghost use Rattle.http_relay_body.specs.Trailers.{Walked};
 
 mod line_end;
 mod size_line;
 mod trailer;
 
 use crate::at_hand::AtHand;
+use crate::chunks::part::trailer::Walk;
 use crate::chunks::room::Room;
 use crate::fault::BodyFault;
 use http_relay_wire::Wire;
@@ -53,8 +55,9 @@ pub(crate) fn pass_part<C: Wire, S: Wire>(
     ensures client_written { C.written client.new ≡ C.written client.old }
     ensures server_reading { S.reading server.new ≡ S.reading server.old }
 {
+    let mut walk = Walk::new();
     loop {
-        match look(part, room.ahead()) {
+        match look(part, &mut walk, room.ahead()) {
             Sight::Whole(len, value) => {
                 room.judge(len);
                 return Ok(value);
@@ -65,13 +68,15 @@ pub(crate) fn pass_part<C: Wire, S: Wire>(
     }
 }
 
-/// Looks for the part in this text.
-fn look(part: Part, text: &[u8]) -> Sight
-    ensures { Sees part text.now result }
+/// Looks for the part in this text. A trailer is looked for by a walk that has come through a front of the text.
+fn look(part: Part, walk: &mut Walk, text: &[u8]) -> Sight
+    requires { Walked walk.old text.now }
+    ensures sees { Sees part text.now result }
+    ensures walked { Walked walk.new text.now }
 {
     match part {
         Part::SizeLine => size_line::look(text),
         Part::DataEnd => line_end::look(text),
-        Part::Trailer => trailer::look(text),
+        Part::Trailer => walk.look(text),
     }
 }

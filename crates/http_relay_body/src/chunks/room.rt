@@ -162,11 +162,14 @@ fn take_behind<C: Wire>(
     }
 }
 
-/// Moves the bytes from this place on, of so many, to the front.
+/// Moves the bytes from this place on, of so many, to the front. That costs nothing where they stand there.
 fn shift(bytes: &mut [u8], from: usize, filled: usize)
     requires within { (from ≤ filled) × (filled ≤ length bytes.old) }
     ensures len { length bytes.new ≡ length bytes.old }
     ensures front { take (filled - from) bytes.new ≡ drop from (take filled bytes.old) }
 {
+    if from == 0 {
+        return;
+    }
     bytes.copy_within(from..filled, 0);
 }

@@ -4,6 +4,12 @@ use Rattle.std.proofs.lemmas.List.Edits.{take-paste}
 use Rattle.std.proofs.Math.Seq.{paste}
 use Rattle.http_relay_body.proofs.chunks.room.shift.Goals as goal
 
+pub returns-then-from-eq0-clause-front : goal.returns-then-from-eq0-clause-front
+returns-then-from-eq0-clause-front c =
+    let all = c.args.bytes.now in
+    let count : c.args.filled - c.args.from ≡ c.args.filled = omega (arith, c.if-from-eq0.true) in
+    ap (λ n. take n all) count ∙ ap (λ n. drop n (take c.args.filled all)) (sym c.if-from-eq0.true)
+
 pub returns-clause-front : goal.returns-clause-front
 returns-clause-front c =
     let all = c.args.bytes.now in
