@@ -1,4 +1,5 @@
 pub mod Chunking
+pub mod Copies
 pub mod Cuts
 pub mod Finishes
 pub mod Inputs

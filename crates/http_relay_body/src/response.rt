@@ -1,11 +1,15 @@
-ghost use Rattle.std.specs.Prelude.{◌≡◌, length, ◌<◌};
-ghost use Rattle.http_relay_body.specs.Copies.{Copied, server_faults, client_faults, fault_number};
+ghost use Rattle.std.specs.Prelude.{◌≡◌, ◌<◌, true, length, IfOk, OnOk, IsFalse, IsTrue};
+ghost use Rattle.std.specs.Io.KnownBytes.{IsAtEnd};
+ghost use Rattle.http_relay_body.specs.Copies.{Copied, CopiedOn, has_ended, told, server_faults, client_faults, fault_number};
 
 use http_relay_wire::{Wire, WireFault, write_all};
 use thiserror::Error;
 
 /// The most bytes that are moved at once: with as many a call of the system costs little beside the bytes that it moves.
 const ROOM: usize = 65536;
+
+/// The bytes of the room that a response begins in. Most end within it, and a room costs as many bytes written as it has.
+const FIRST_ROOM: usize = 4096;
 
 /// Why a response was not copied to its end.
 #[derive(Clone, Copy, Debug, PartialEq, Eq, Error)]
@@ -32,8 +36,18 @@ impl CopyFault {
     }
 }
 
+/// How far a response was copied.
+#[derive(Clone, Copy, Debug, PartialEq, Eq)]
+pub(crate) enum Progress {
+    /// The server has ended behind so many bytes.
+    Ended(u64),
+    /// So many bytes were copied, and the last read gave as many as there was room for.
+    Goes(u64),
+}
+
 /// Copies what the server sends to the client, byte for byte, until the server ends, and answers how many bytes it sent (at
-/// most 2^64 - 1 is told). It takes no memory: the bytes go through one buffer, and what a read gave is written before the next.
+/// most 2^64 - 1 is told). It takes no memory: the bytes go through a buffer, and what a read gave is written before the next. The
+/// buffer has 4 KiB until a read fills it, and 64 KiB from there on.
 pub fn copy_back<S: Wire, C: Wire>(server: &mut S, client: &mut C) -> Result<u64, CopyFault>
     ensures copied { Copied (S.reading server.old) (S.reading server.new) (C.written client.old) (C.written client.new) result }
     ensures server { S.faults server.new ≡ server_faults result (S.faults server.old) }
@@ -41,26 +55,54 @@ pub fn copy_back<S: Wire, C: Wire>(server: &mut S, client: &mut C) -> Result<u64
     ensures server_written { S.written server.new ≡ S.written server.old }
     ensures client_reading { C.reading client.new ≡ C.reading client.old }
 {
-    copy_through(server, client, &mut [0; ROOM])
+    match copy_through(server, client, &mut [0; FIRST_ROOM], 0, true) {
+        Ok(Progress::Ended(copied)) => Ok(copied),
+        Ok(Progress::Goes(copied)) => copy_rest(server, client, copied),
+        Err(fault) => Err(fault),
+    }
 }
 
-/// Copies through this room.
-fn copy_through<S: Wire, C: Wire>(
+/// Copies what comes behind the first bytes of a response, which were so many.
+fn copy_rest<S: Wire, C: Wire>(
     server: &mut S,
     client: &mut C,
-    room: &mut [u8],
+    before: u64,
 ) -> Result<u64, CopyFault>
-    requires { 0 < length room.old }
-    ensures copied { Copied (S.reading server.old) (S.reading server.new) (C.written client.old) (C.written client.new) result }
+    ensures copied { CopiedOn before (S.reading server.old) (S.reading server.new) (C.written client.old) (C.written client.new) result }
+    ensures ended { OnOk result (IsAtEnd (S.reading server.new).unread × ((S.reading server.new).ended ≡ true)) }
     ensures server { S.faults server.new ≡ server_faults result (S.faults server.old) }
     ensures client { C.faults client.new ≡ client_faults result (C.faults client.old) }
     ensures server_written { S.written server.new ≡ S.written server.old }
     ensures client_reading { C.reading client.new ≡ C.reading client.old }
 {
-    let mut copied: u64 = 0;
+    match copy_through(server, client, &mut [0; ROOM], before, false) {
+        Ok(Progress::Ended(copied) | Progress::Goes(copied)) => Ok(copied),
+        Err(fault) => Err(fault),
+    }
+}
+
+/// Copies through this room behind so many bytes, until the server ends, or also until a read fills the room where it `pauses` there.
+fn copy_through<S: Wire, C: Wire>(
+    server: &mut S,
+    client: &mut C,
+    room: &mut [u8],
+    before: u64,
+    pauses: bool,
+) -> Result<Progress, CopyFault>
+    requires { 0 < length room.old }
+    ensures copied { CopiedOn before (S.reading server.old) (S.reading server.new) (C.written client.old) (C.written client.new) (told result) }
+    ensures ended { IfOk result (λ progress. IsTrue (has_ended progress)
+        → IsAtEnd (S.reading server.new).unread × ((S.reading server.new).ended ≡ true)) }
+    ensures whole { IsFalse pauses → IfOk result (λ progress. IsTrue (has_ended progress)) }
+    ensures server { S.faults server.new ≡ server_faults (told result) (S.faults server.old) }
+    ensures client { C.faults client.new ≡ client_faults (told result) (C.faults client.old) }
+    ensures server_written { S.written server.new ≡ S.written server.old }
+    ensures client_reading { C.reading client.new ≡ C.reading client.old }
+{
+    let mut copied = before;
     loop {
         let count = match server.read(room) {
-            Ok(0) => return Ok(copied),
+            Ok(0) => return Ok(Progress::Ended(copied)),
             Ok(count) => count,
             Err(fault) if copied == 0 => return Err(CopyFault::NoResponse(fault)),
             Err(fault) => return Err(CopyFault::CutShort(fault)),
@@ -69,5 +111,8 @@ fn copy_through<S: Wire, C: Wire>(
             return Err(CopyFault::Client(fault));
         }
         copied = copied.saturating_add(count as u64);
+        if pauses && count == room.len() {
+            return Ok(Progress::Goes(copied));
+        }
     }
 }

@@ -1,3 +1,4 @@
+use http_relay_socket::StreamLimits;
 use std::io;
 use std::net::{Net, SocketAddr, SocketAddrV4, TcpListener, TcpStream};
 use std::os::fd::OwnedFd;
@@ -10,18 +11,37 @@ const TICK_MILLIS: u64 = 100;
 /// accept that waits 100 ms ends as `WouldBlock`. Port 0 stands for one that the system picks. The error is the system's, where the
 /// address can't be bound.
 pub fn listen<R: Net>(rt: &R, address: SocketAddrV4) -> io::Result<TcpListener> {
+    let socket = bound(rt, address)?;
+    socket.set_nonblocking(false)?;
+    Ok(TcpListener::from(with_tick(OwnedFd::from(socket))?))
+}
+
+/// Listens at this address as `listen` does, but that its accepts don't wait: one ends as `WouldBlock` where nobody waits to be accepted.
+/// What it accepts has these limits on reads and writes, which are set here once and cost no connection a call of the system.
+pub fn listen_within<R: Net>(
+    rt: &R,
+    address: SocketAddrV4,
+    limits: StreamLimits,
+) -> io::Result<TcpListener> {
+    let socket = bound(rt, address)?;
+    // The system gives a connection the options of the socket that accepted it.
+    limits.set(&socket)?;
+    Ok(TcpListener::from(OwnedFd::from(socket)))
+}
+
+// A listening socket, whose accepts don't wait. Only streams have calls that set its options.
+fn bound<R: Net>(rt: &R, address: SocketAddrV4) -> io::Result<TcpStream> {
     // The backlog of std's own listener is 128.
     let listener = mio::net::TcpListener::bind(rt, SocketAddr::V4(address))?;
     let socket = TcpStream::from(OwnedFd::from(listener));
-    socket.set_nonblocking(false)?;
     socket.set_nodelay(true)?;
-    Ok(TcpListener::from(with_tick(OwnedFd::from(socket))?))
+    Ok(socket)
 }
 
 /// The listening socket, whose accepts now end as `WouldBlock` where none came for 100 ms. What it accepts has that limit on its reads,
 /// until another is set. The error is the system's.
 pub fn with_tick(socket: OwnedFd) -> io::Result<OwnedFd> {
-    // A listener's limit on reads is the limit of its accepts, and only streams have a call that sets it.
+    // A listener's limit on reads is the limit of its accepts.
     let socket = TcpStream::from(socket);
     socket.set_read_timeout(Some(Duration::from_millis(TICK_MILLIS)))?;
     Ok(OwnedFd::from(socket))

@@ -1,5 +1,5 @@
 use crate::site::{LONG, any_port, connect_all, patience, rules, take_all};
-use http_relay_listen::listen;
+use http_relay_listen::{listen, listen_within};
 use http_relay_lobby::{Arrival, Rules, gather_until_stopped, waiting_line};
 use http_relay_socket::StreamLimits;
 use std::io::Write;
@@ -36,19 +36,20 @@ fn is_request(arrival: &Arrival<TcpStream>) -> Result<bool, Fail> {
     )
 }
 
-// A connection whose head came with it is handed on with its limits, whatever those are, its client and its frontend.
+// A connection whose head came with it is handed on with its listener's limits, whatever those are, its client and its frontend.
 #[test]
 fn connections_have_their_limits(rt: HostRuntime) -> Result<(), Fail> {
     for (read, write) in LIMITS {
-        let listener = listen(&rt, any_port())?;
+        let limits = StreamLimits {
+            read: *read,
+            write: *write,
+        };
+        let listener = listen_within(&rt, any_port(), limits)?;
         let address = listener.local_addr()?;
         let (to, from) = waiting_line(rt.alloc())?;
         let rules = Rules {
             frontend: 3,
-            limits: StreamLimits {
-                read: *read,
-                write: *write,
-            },
+            silence: *read,
             most_guests: 8,
         };
         let stop = AtomicBool::new(false);

@@ -17,8 +17,8 @@ const REQUEST: &[u8] = b"GET / HTTP/1.1\r\nHost: a\r\n\r\n";
 /// A connection of a `Script`, whose client has sent a request.
 #[derive(Debug, Drop)]
 struct Scripted {
-    // Whether its limits can be set.
-    is_limitable: bool,
+    // Whether it can be set not to block.
+    is_settable: bool,
 }
 
 impl Read for Scripted {
@@ -47,18 +47,10 @@ impl AsRawFd for Scripted {
 
 impl OpenStream for Scripted {
     fn set_nonblocking(&self, _nonblocking: bool) -> io::Result<()> {
-        Ok(())
-    }
-
-    fn set_read_timeout(&self, _limit: Option<Duration>) -> io::Result<()> {
-        match self.is_limitable {
+        match self.is_settable {
             true => Ok(()),
             false => Err(ErrorKind::InvalidInput.into()),
         }
-    }
-
-    fn set_write_timeout(&self, _limit: Option<Duration>) -> io::Result<()> {
-        Ok(())
     }
 }
 
@@ -66,8 +58,8 @@ impl OpenStream for Scripted {
 #[derive(Clone, Copy, Debug)]
 enum Accept {
     Connection,
-    // One whose limits can't be set.
-    Unlimitable,
+    // One that can't be set not to block.
+    Unsettable,
     Fails(ErrorKind),
     // The system's error of this number.
     FailsAs(i32),
@@ -105,16 +97,16 @@ impl<'a> OpenListener for ScriptedListener<'a> {
         };
         match accept {
             Accept::Connection => Ok(connection(true)),
-            Accept::Unlimitable => Ok(connection(false)),
+            Accept::Unsettable => Ok(connection(false)),
             Accept::Fails(kind) => Err((*kind).into()),
             Accept::FailsAs(number) => Err(Error::from_raw_os_error(*number)),
         }
     }
 }
 
-fn connection(is_limitable: bool) -> (Scripted, SocketAddr) {
+fn connection(is_settable: bool) -> (Scripted, SocketAddr) {
     let address = SocketAddr::V4(SocketAddrV4::new(Ipv4Addr::new(10, 0, 0, 1), 80));
-    (Scripted { is_limitable }, address)
+    (Scripted { is_settable }, address)
 }
 
 // `EMFILE`: too many open files.
@@ -140,10 +132,10 @@ const ACCEPTS: &[(&[Accept], usize)] = &[
         1,
     ),
     (&[Accept::Fails(ErrorKind::Other), Accept::Connection], 1),
-    (&[Accept::Unlimitable, Accept::Connection], 1),
+    (&[Accept::Unsettable, Accept::Connection], 1),
 ];
 
-// No error of one accept ends the loop, and a connection without its limits is closed.
+// No error of one accept ends the loop, and a connection whose reads would wait is closed.
 #[test]
 fn errors_end_nothing(rt: HostRuntime) -> Result<(), Fail> {
     for (accepts, handed_on) in ACCEPTS {

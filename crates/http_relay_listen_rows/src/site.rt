@@ -19,11 +19,11 @@ pub(crate) const NONE: StreamLimits = StreamLimits {
     write: None,
 };
 
-/// A lobby of the first frontend with these limits, for so many guests.
+/// A lobby of the first frontend, whose clients may be silent for as long as a read may wait, for so many guests.
 pub(crate) fn rules(limits: StreamLimits, most_guests: usize) -> Rules {
     Rules {
         frontend: 0,
-        limits,
+        silence: limits.read,
         most_guests,
     }
 }

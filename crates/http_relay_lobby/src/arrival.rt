@@ -13,6 +13,7 @@ pub const MAX_WAITING: usize = 1024;
 /// A connection of a client, on its way to a worker, and what was read of it.
 #[derive(Debug, Drop)]
 pub struct Arrival<S> {
+    /// It is set not to block, and has the limits that the listener had which accepted it.
     pub stream: S,
     /// The client's address.
     pub source: Ipv4Addr,

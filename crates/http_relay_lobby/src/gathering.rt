@@ -36,8 +36,8 @@ struct Watch {
 ///
 /// What a client sends with its connection is read at once, so most connections are handed on as they come. Others wait in the lobby,
 /// where they cost no worker and hold no other up: up to `rules.most_guests`, of which the one that was silent for longest leaves where
-/// one more comes. A wait for a client has the limit of reads in `rules`, which each byte begins anew; one that is over is told to the
-/// worker as a read that timed out. Nobody waits for room in the line: where it is full nothing is accepted, and heads that become whole
+/// one more comes. A client may be silent for as long as `rules.silence` says, which each byte begins anew; one that was silent for longer
+/// is told to the worker as a read that timed out. Connections keep the limits on reads and writes that the listener gave them. Nobody waits for room in the line: where it is full nothing is accepted, and heads that become whole
 /// are kept.
 ///
 /// At a stop, which is seen within 100 ms, the listener is closed first. Guests have their limit as before; those of a frontend without a

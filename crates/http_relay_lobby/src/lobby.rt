@@ -6,12 +6,10 @@ use crate::refusing::refuse;
 use crossbeam_channel::Sender;
 use http_relay_head::HEAD_ROOM;
 use http_relay_listen::passes;
-use http_relay_socket::StreamLimits;
 use http_relay_wire::WireFault;
 use mio::unix::SourceFd;
 use mio::{Interest, Registry, Token};
 use std::alloc::{AllocError, Global};
-use std::io;
 use std::io::{ErrorKind, Read, Write};
 use std::net::{OpenListener, OpenStream, SocketAddr};
 use std::os::fd::AsRawFd;
@@ -35,8 +33,8 @@ pub(crate) const LISTENER: usize = usize::MAX;
 pub struct Rules {
     /// The place of the frontend among the configuration's.
     pub frontend: usize,
-    /// How long a client may hold up a read or a write. The first holds in the lobby too.
-    pub limits: StreamLimits,
+    /// How many milliseconds a client may be silent. Without a number, and at 0, there is no limit.
+    pub silence: Option<u32>,
     /// How many connections may stand in the lobby, but for one at least.
     pub most_guests: usize,
 }
@@ -95,7 +93,7 @@ impl<S: Read + Write + OpenStream + AsRawFd + Drop> Lobby<S> {
 
     /// How long a guest may be silent, in milliseconds.
     fn limit(&self) -> Option<u64> {
-        match self.rules.limits.read {
+        match self.rules.silence {
             Some(millis) if millis > 0 => Some(u64::from(millis)),
             _ => None,
         }
@@ -146,7 +144,7 @@ impl<S: Read + Write + OpenStream + AsRawFd + Drop> Lobby<S> {
         }
         match Guest::new(arrival, now).read_once(room) {
             Heard::Stays(guest) => self.invite(rt, registry, guest),
-            Heard::Leaves(arrival) => self.hand_on(rt, arrival),
+            Heard::Leaves(arrival) => self.line.put(rt, arrival),
             Heard::Lost(stream) => refuse(stream),
         }
     }
@@ -196,7 +194,7 @@ impl<S: Read + Write + OpenStream + AsRawFd + Drop> Lobby<S> {
             }
             Heard::Leaves(arrival) => {
                 let _ = registry.deregister(&mut SourceFd(&descriptor));
-                self.hand_on(rt, arrival);
+                self.line.put(rt, arrival);
             }
             Heard::Lost(stream) => refuse(stream),
         }
@@ -237,15 +235,7 @@ impl<S: Read + Write + OpenStream + AsRawFd + Drop> Lobby<S> {
     fn dismiss<R: Wait>(&mut self, rt: &R, registry: &Registry, guest: Guest<S>) {
         let descriptor = guest.arrival.stream.as_raw_fd();
         let _ = registry.deregister(&mut SourceFd(&descriptor));
-        self.hand_on(rt, guest.failed(WireFault::Timeout));
-    }
-
-    /// Hands the connection on to the workers, as these want it: its calls wait, with its limits. One that can't be had so could hold a
-    /// worker for ever, and is closed.
-    fn hand_on<R: Wait>(&mut self, rt: &R, arrival: Arrival<S>) {
-        if ready_for_workers(&arrival.stream, self.rules.limits).is_ok() {
-            self.line.put(rt, arrival);
-        }
+        self.line.put(rt, guest.failed(WireFault::Timeout));
     }
 
     /// Closes the guests that nothing else would end, as those of a frontend without a limit.
@@ -256,11 +246,6 @@ impl<S: Read + Write + OpenStream + AsRawFd + Drop> Lobby<S> {
             }
         }
     }
-}
-
-fn ready_for_workers<S: OpenStream>(stream: &S, limits: StreamLimits) -> io::Result<()> {
-    stream.set_nonblocking(false)?;
-    limits.set(stream)
 }
 
 /// For how many milliseconds a guest was silent. Where the clock can't be read that is for ever.

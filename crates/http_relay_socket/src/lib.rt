@@ -3,12 +3,14 @@
 //!
 //! Promised: a `FrontedWire` gives the bytes that were read before it was made, and then those of the wire behind it. A
 //! `PatientStream` asks its `Patience` before each call how long that may wait: a `Deadline` is one limit over all calls together.
-//! `StreamLimits` are set on a stream once, for each call alone.
+//! `StreamLimits` are set on a stream once, for each call alone. An `EagerStream` sets a stream to block where a call has to wait, and not
+//! before.
 //! `end_gently` ends a stream so that the peer gets all that was sent. Start at `FrontedWire`, whose words are those of `Wire`.
 #![tactic(auto)]
 
 mod deadline;
 mod draining;
+mod eager;
 mod fronted;
 mod limits;
 mod patience;
@@ -16,6 +18,7 @@ mod patient;
 
 pub use deadline::Deadline;
 pub use draining::{Drained, drain, end_gently};
+pub use eager::EagerStream;
 pub use fronted::FrontedWire;
 pub use limits::StreamLimits;
 pub use patience::Patience;

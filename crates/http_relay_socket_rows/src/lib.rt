@@ -6,6 +6,8 @@
 #[cfg(test)]
 mod dials;
 #[cfg(test)]
+mod eager;
+#[cfg(test)]
 mod ends;
 #[cfg(test)]
 mod fronts;

@@ -1,9 +1,12 @@
-use http_relay_socket::{Deadline, Drained, FrontedWire, PatientStream, StreamLimits, end_gently};
+use http_relay_socket::{
+    Deadline, Drained, EagerStream, FrontedWire, PatientStream, StreamLimits, end_gently,
+};
 use http_relay_wire::{SocketWire, Wire, WireFault, write_all};
 use std::io;
 use std::io::Read;
 use std::net::{TcpListener, TcpStream};
 use std::test::Fail;
+use std::time::{Duration, Instant};
 
 const TIMEOUT: WireFault = WireFault::Timeout;
 
@@ -52,6 +55,36 @@ fn limits_hold_for_reads_and_writes(rt: HostRuntime) -> Result<(), Fail> {
     let written = write_all(&mut wire, &bytes);
     let read = wire.read(&mut [0; 8]);
     assert!(rt; written == Err(TIMEOUT) && read == Err(TIMEOUT));
+    drop(far);
+    Ok(())
+}
+
+// A stream that came set not to block waits as long as its limits say, and at its end doesn't block.
+#[test]
+fn an_eager_stream_has_its_limits(rt: HostRuntime) -> Result<(), Fail> {
+    let (near, far) = pair(&rt)?;
+    let limits = StreamLimits {
+        read: Some(50),
+        write: Some(50),
+    };
+    limits.set(&near)?;
+    near.set_nonblocking(true)?;
+    let bytes = Vec::from_elem(rt.alloc(), 7, 20_000_000)?;
+    let begun = Instant::now(&rt)?;
+    let mut stream = EagerStream::new(near);
+    let mut wire = SocketWire::new(&mut stream);
+    let read = wire.read(&mut [0; 8]);
+    let written = write_all(&mut wire, &bytes);
+    let waited = begun.elapsed(&rt)?.as_millis();
+    let mut near = stream.into_stream()?;
+    near.set_read_timeout(Some(Duration::from_millis(5000)))?;
+    let begun = Instant::now(&rt)?;
+    let last = near.read(&mut [0; 8]).is_err();
+    let at_once = begun.elapsed(&rt)?.as_millis() < 1000;
+    assert!(rt;
+        read == Err(TIMEOUT) && written == Err(TIMEOUT) && waited >= 99 && last && at_once,
+        "{waited}"
+    );
     drop(far);
     Ok(())
 }

@@ -1,4 +1,5 @@
 use http_relay_head::HEAD_ROOM;
+use http_relay_socket::EagerStream;
 use std::alloc::Global;
 use std::collections::VecDeque;
 use std::io::{ErrorKind, Read, Write};
@@ -43,8 +44,11 @@ impl<S: Read + Write + OpenStream + Drop> Leavers<S> {
     }
 
     /// Ends the own direction of the connection, and waits for its client beside others. One that can't be waited for is closed.
-    pub(crate) fn add<R: Clock>(&mut self, rt: &R, stream: S) {
-        if stream.shutdown(Shutdown::Write).is_err() || stream.set_nonblocking(true).is_err() {
+    pub(crate) fn add<R: Clock>(&mut self, rt: &R, client: EagerStream<S>) {
+        let Ok(stream) = client.into_stream() else {
+            return;
+        };
+        if stream.shutdown(Shutdown::Write).is_err() {
             return;
         }
         let Ok(now) = Instant::now(rt) else {

@@ -8,7 +8,7 @@ use crate::{Leavers, Relay, RelayWorker};
 use http_relay_head::HEAD_ROOM;
 use http_relay_lobby::Arrival;
 use http_relay_serve::{Cause, Client, DropCause, Outcome, serve_one};
-use http_relay_socket::FrontedWire;
+use http_relay_socket::{EagerStream, FrontedWire};
 use http_relay_wire::{SocketWire, Wire};
 use lb_desk_ports::{Gate, Port};
 use lb_routes::ConfigRoutes;
@@ -20,8 +20,8 @@ use std::time::Clock;
 /// Serves the one request of a client that came to a frontend, with one port for each backend, and ends the connection. None where the
 /// configuration has no such frontend: the connection is closed.
 ///
-/// Behind the dial no memory is asked for. The client's stream has the limits that it came with, and the bytes that were read of it come
-/// first. Where the client doesn't close by itself it is waited for among `leavers`.
+/// Behind the dial no memory is asked for. The client's stream has the limits that it came with, and came set not to block; the bytes that
+/// were read of it come first. Where the client doesn't close by itself it is waited for among `leavers`.
 pub fn serve_arrival<R, S, P, G>(
     rt: &R,
     alloc: Global,
@@ -51,10 +51,10 @@ where
         failed,
     } = arrival;
     let routes = ConfigRoutes::at(relay.config, frontend)?;
-    let mut stream = stream;
-    let wire = FrontedWire::new(SocketWire::new(&mut stream), &head, failed);
+    let mut client = EagerStream::new(stream);
+    let wire = FrontedWire::new(SocketWire::new(&mut client), &head, failed);
     let outcome = serve_over(rt, alloc, worker, &routes, source, wire, ports, room);
-    end(rt, outcome, stream, leavers);
+    end(rt, outcome, client, leavers);
     Some(outcome)
 }
 
@@ -85,13 +85,13 @@ where
 /// Ends the client's connection. One that broke off before its head was read got nothing that could be lost, so it is closed at once.
 /// So is one whose head took too long: of a client that was silent nothing is unread, by which an answer would be lost, and to wait for
 /// its end would give a silent client a worker for a second.
-fn end<R, S>(rt: &R, outcome: Outcome, stream: S, leavers: &mut Leavers<S>)
+fn end<R, S>(rt: &R, outcome: Outcome, client: EagerStream<S>, leavers: &mut Leavers<S>)
 where
     R: Clock,
     S: Read + Write + OpenStream + Drop,
 {
     match outcome {
         Outcome::Dropped(DropCause::HeadBroken) | Outcome::Answered(Cause::HeadTimedOut) => {}
-        _ => leavers.add(rt, stream),
+        _ => leavers.add(rt, client),
     }
 }

@@ -40,7 +40,7 @@ pub(crate) fn open_port() -> PortScript<'static> {
     }
 }
 
-/// The relay's end of a connection and the client's, who has sent these bytes, and nothing behind them where it `ends`.
+/// The relay's end of a connection, which doesn't block, and the client's, who has sent these bytes, and nothing behind them where it `ends`.
 pub(crate) fn client(
     rt: &HostRuntime,
     sent: &[u8],
@@ -53,6 +53,7 @@ pub(crate) fn client(
         far.shutdown(Shutdown::Write)?;
     }
     let (near, _) = listener.accept()?;
+    near.set_nonblocking(true)?;
     Ok((near, far))
 }
 

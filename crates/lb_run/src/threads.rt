@@ -32,7 +32,7 @@ pub(crate) fn listen<R: Host, B: Naming>(
     } = door;
     let rules = Rules {
         frontend,
-        limits,
+        silence: limits.read,
         most_guests: MOST_GUESTS,
     };
     if gather_until_stopped(rt, floor.alloc, listener, rules, floor.stop, to).is_err() {

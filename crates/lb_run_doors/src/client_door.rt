@@ -2,7 +2,7 @@ ghost use Rattle.std.specs.Prelude.{◌≡◌, IfOk};
 ghost use Rattle.lb_run_doors.specs.Doors.{door_at, door_view, limits_of};
 
 use crate::fault::BindFault;
-use http_relay_listen::listen;
+use http_relay_listen::listen_within;
 use http_relay_socket::StreamLimits;
 use lb_config::Frontend;
 use lb_config_arguments::Endpoint;
@@ -16,7 +16,7 @@ pub struct ClientDoor {
     pub endpoint: Endpoint,
     /// The place of the frontend among the configuration's.
     pub frontend: usize,
-    /// What each connection may wait for its client.
+    /// How long each connection that is accepted waits for its client.
     pub limits: StreamLimits,
 }
 
@@ -32,12 +32,13 @@ impl ClientDoor {
         ensures { IfOk result (λ door. door_view door ≡ door_at place frontend.now endpoint) }
     {
         let address = SocketAddrV4::new(endpoint.address, endpoint.port);
-        match listen(rt, address) {
+        let limits = limits_of(frontend);
+        match listen_within(rt, address, limits) {
             Ok(listener) => Ok(ClientDoor {
                 listener,
                 endpoint,
                 frontend: place,
-                limits: limits_of(frontend),
+                limits,
             }),
             Err(_) => Err(BindFault::CannotBind(endpoint_text(alloc, endpoint)?)),
         }

@@ -14,8 +14,6 @@ returns-in-Err-write_all-clause-copied g c =
       text = known.text ++ part;
       read = known.read ∙ ap (prepend_known known.text) c.in-Ok.ensures.bytes ∙ prepend_twice _ known.text part;
       tells = omega (arith, size, c.in-Ok.count-test.1);
-      at_end = tt;
-      ended = tt;
       sent = begins_later _ _ _ known.text part known.sent c.in-Err-write_all.ensures.err;
     }
 
@@ -34,4 +32,16 @@ loop-count-preserved g c =
       client = c.in_default.ensures.faults ∙ known.client;
       server_written = c.in-Ok.ensures.written ∙ known.server_written;
       client_reading = c.in_default.ensures.reading ∙ known.client_reading;
+    }
+
+pub returns-then-count-room-clause-copied : goal.returns-then-count-room-clause-copied
+returns-then-count-room-clause-copied g c =
+    let known = c.loop-count.invariant in
+    let part = take c.in-Ok.count c.read.new.buffer in
+    let size = length-append known.text part ∙ ap (λ n. length known.text + n) (length-take-le c.in-Ok.count c.read.new.buffer c.in-Ok.ensures.within) in
+    record {
+      text = known.text ++ part;
+      read = known.read ∙ ap (prepend_known known.text) c.in-Ok.ensures.bytes ∙ prepend_twice _ known.text part;
+      tells = grind (arith, size, known.copied, c.saturating_add-copied.ensures);
+      sent = c.in_default.ensures.ok ∙ ap (λ bytes. append_known bytes part) known.sent ∙ append_twice _ known.text part;
     }

@@ -1,4 +1,4 @@
-use Rattle.std.proofs.Common.{◌≡◌, ℕ, ◌-◌, ◌^◌, ◌<◌, min, List, length}
+use Rattle.std.proofs.Common.{◌≡◌, ℕ, ◌+◌, ◌-◌, ◌^◌, ◌<◌, min, List, length}
 use Rattle.std.specs.Io.KnownBytes.{prepend_known, append_known}
 use Rattle.http_relay_body.proofs.response.copy_through.Given as goal
 
@@ -7,7 +7,7 @@ abbrev pub invariant-loop-count : goal.invariant-loop-count
 invariant-loop-count g l = record {
   text : List ℕ;
   room : 0 < length l.room;
-  copied : l.copied ≡ min (length text) (2 ^ 64 - 1);
+  copied : l.copied ≡ min (l.fn.before + length text) (2 ^ 64 - 1);
   read : (g.S.Wire.reading l.fn.server).unread ≡ prepend_known text (g.S.Wire.reading l.server).unread;
   sent : g.C.Wire.written l.client ≡ append_known (g.C.Wire.written l.fn.client) text;
   server : g.S.Wire.faults l.server ≡ g.S.Wire.faults l.fn.server;
