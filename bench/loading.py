@@ -1,0 +1,133 @@
+"""What a balancer is loaded with, and what it costs: `wrk` as clients, `nginx` as servers, on processors of their own where there are four."""
+
+from __future__ import annotations
+
+import contextlib
+import os
+import re
+import resource
+import socket
+import subprocess
+import sys
+import time
+from collections.abc import Sequence
+from dataclasses import dataclass
+from pathlib import Path
+
+ROOT = Path(__file__).resolve().parent.parent
+ORIGINS = (18081, 18082)
+TICKS = os.sysconf("SC_CLK_TCK")
+
+ORIGIN = """
+worker_processes 2;
+daemon off;
+pid {folder}/origin.pid;
+error_log /dev/null;
+events {{ worker_connections 20000; }}
+http {{
+    access_log off;
+    server {{ listen 127.0.0.1:{first} backlog=4096; location / {{ return 200 "this is a\\n"; }} }}
+    server {{ listen 127.0.0.1:{second} backlog=4096; location / {{ return 200 "this is b\\n"; }} }}
+}}
+"""
+
+
+@dataclass(frozen=True)
+class Told:
+    """What one load told."""
+
+    answered: int
+    # Requests a second.
+    pace: float
+    # The seconds within which 99 of 100 were answered, and those of the longest answer.
+    late: float
+    latest: float
+    failed: int
+
+
+def say(text: str) -> None:
+    print(text, file=sys.stderr, flush=True)
+
+
+def processors() -> tuple[str, str]:
+    """The processors of the balancers, and those of clients and origins."""
+    mine = sorted(os.sched_getaffinity(0))
+    if len(mine) < 4:
+        every = ",".join(map(str, mine))
+        return every, every
+    return ",".join(map(str, mine[:2])), ",".join(map(str, mine[2:]))
+
+
+def raise_files() -> None:
+    """Lets this process and those that it starts open as many files as the system allows."""
+    most = resource.getrlimit(resource.RLIMIT_NOFILE)[1]
+    resource.setrlimit(resource.RLIMIT_NOFILE, (most, most))
+
+
+def started(words: list[str], cores: str) -> subprocess.Popen[bytes]:
+    return subprocess.Popen(["taskset", "-c", cores, *words], stdin=subprocess.DEVNULL, stdout=subprocess.DEVNULL, start_new_session=True)
+
+
+def wait_for(port: int) -> None:
+    for _ in range(200):
+        with contextlib.suppress(OSError), socket.create_connection(("127.0.0.1", port), 1):
+            return
+        time.sleep(0.05)
+    raise SystemExit(f"nobody listens at port {port}")
+
+
+def family(process: int) -> list[int]:
+    """The process and all below it."""
+    below = Path(f"/proc/{process}/task/{process}/children").read_text().split()
+    return [process, *(it for child in below for it in family(int(child)))]
+
+
+def spent(process: int) -> float:
+    """The processor seconds of a process and all below it."""
+    total = 0
+    for it in family(process):
+        fields = Path(f"/proc/{it}/stat").read_text().rpartition(")")[2].split()
+        total += int(fields[11]) + int(fields[12])
+    return total / TICKS
+
+
+def resident(process: int) -> float:
+    """The resident megabytes of a process and all below it."""
+    kilobytes = 0
+    for it in family(process):
+        found = re.search(r"^VmRSS:\s+(\d+)", Path(f"/proc/{it}/status").read_text(), re.M)
+        kilobytes += int(found[1]) if found else 0
+    return kilobytes / 1024
+
+
+def origins(folder: Path, cores: str) -> subprocess.Popen[bytes]:
+    """Two servers that answer at once, with a configuration in this folder."""
+    (folder / "origin.cfg").write_text(ORIGIN.format(folder=folder, first=ORIGINS[0], second=ORIGINS[1]))
+    running = started(["nginx", "-c", str(folder / "origin.cfg")], cores)
+    wait_for(ORIGINS[0])
+    return running
+
+
+def seconds_of(text: str) -> float:
+    number, unit = re.fullmatch(r"([\d.]+)(us|ms|s|m)", text).groups()
+    return float(number) * {"us": 1e-6, "ms": 1e-3, "s": 1, "m": 60}[unit]
+
+
+def load(port: int, clients: int, seconds: int, cores: str, script: Sequence[str] = ()) -> Told:
+    """Loads the balancer at this port with one request a connection, or with what a script of `wrk` says."""
+    told = subprocess.run(
+        ["taskset", "-c", cores, "wrk", "-t", "2", "-c", str(clients), "-d", f"{seconds}s", "--latency", "--timeout", "5s",
+         *(("-s", script[0]) if script else ("-H", "Connection: close")), f"http://127.0.0.1:{port}/", *(("--", *script[1:]) if script else ())],
+        capture_output=True, text=True, check=True,
+    ).stdout
+    errors = re.search(r"Socket errors: connect (\d+), read (\d+), write (\d+), timeout (\d+)", told)
+    refused = re.search(r"Non-2xx or 3xx responses: (\d+)", told)
+    # wrk counts an answer whose end is the connection's as read well.
+    failed = sum(map(int, errors.groups())) if errors else 0
+    return Told(
+        answered=int(re.search(r"(\d+) requests in", told)[1]),
+        pace=float(re.search(r"Requests/sec:\s+([\d.]+)", told)[1]),
+        late=seconds_of(re.search(r"99%\s+(\S+)", told)[1]),
+        latest=seconds_of(re.search(r"Latency\s+\S+\s+\S+\s+(\S+)", told)[1]),
+        failed=failed + (int(refused[1]) if refused else 0),
+    )
