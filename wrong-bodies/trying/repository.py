@@ -8,8 +8,9 @@ import shutil
 import subprocess
 from typing import Dict, List, Sequence, Set, Tuple
 
+from trying.definitions import WORD, Module, cited, definitions_of, is_named, names_of_definitions, without_remarks
 from trying.edits import PARTS, read_text
-from trying.source import closing, code_of, functions_of, masked, module_of
+from trying.source import closing, masked
 
 FOLDER = "wrong-bodies"
 
@@ -21,7 +22,7 @@ class Repository:
         self.root, self.room, self.lines = root, room, {}
         self.lower: Dict[str, List[str]] = {}
         self.sums: Dict[str, str] = {}
-        self.defined: Dict[str, str] = {}
+        self.defined: Dict[str, List[Tuple[str, str, str]]] = {}
         for line in read_text(f"{root}/crates.txt").split("\n"):
             head, _, uses = line.partition("#")[0].partition(":")
             if head.strip():
@@ -52,13 +53,14 @@ class Repository:
 
     def digest(self, crate: str) -> str:
         """Returns the sum over all that the verdicts on this crate's edits depend on: the crate's own texts, and the definitions
-        below it, since they say what its contracts mean. How a function below is written or proved, and what it promises, plays no
-        part: a body that breaks its contract has no proof whatever is promised below it."""
+        below it that they lead to, since they say what its contracts mean. How a function below is written or proved, and what it
+        promises, plays no part: a body that breaks its contract has no proof whatever is promised below it."""
         total = hashlib.sha256(self.logic.encode())
         total.update(repr(sorted(self.edits(crate).items())).encode())
         total.update(self.sum_of_texts(crate).encode())
-        for it in sorted(self.below(crate)):
-            total.update(self.sum_of_definitions(it).encode())
+        reached = [(module, self.spec(module)) for module in self.reached(crate)]
+        defined = self.sources_reached(crate, [text for _, text in reached])
+        total.update(repr((reached, defined)).encode(errors="surrogateescape"))
         return total.hexdigest()
 
     def sum_of_texts(self, crate: str) -> str:
@@ -69,72 +71,67 @@ class Repository:
             self.sums[crate] = hashlib.sha256(said.encode(errors="surrogateescape")).hexdigest()
         return self.sums[crate]
 
-    def sum_of_definitions(self, crate: str) -> str:
-        """Returns the sum over what contracts above this crate are said in: its specs, and the types, models, traits and constants
-        of its sources."""
+    def sources(self, crate: str) -> List[Tuple[str, str, str]]:
+        """Returns the crate's name, path and definitions of each source file that defines something for those above."""
         if crate not in self.defined:
             texts = texts_without_tests(self.texts(crate))
-            said = [(short, text) for short, text in texts if short.startswith("specs/")]
-            said += [(short, definitions_of(short, text)) for short, text in texts if short.endswith(".rt")]
-            said = [it for it in said if it[1]]
-            self.defined[crate] = hashlib.sha256(repr(said).encode(errors="surrogateescape")).hexdigest()
+            said = [(crate, short, definitions_of(short, text)) for short, text in texts if short.endswith(".rt")]
+            self.defined[crate] = [it for it in said if it[2]]
         return self.defined[crate]
+
+    def sources_reached(self, crate: str, specs: Sequence[str]) -> List[Tuple[str, str, str]]:
+        """Returns what is defined by source files below this crate whose types, traits or constants are named in its own texts, in
+        these specs, or in another such file."""
+        words = {*WORD.findall("".join(text for _, text in texts_without_tests(self.texts(crate))) + "".join(specs))}
+        left = [it for low in sorted(self.below(crate)) for it in self.sources(low)]
+        reached: List[Tuple[str, str, str]] = []
+        while True:
+            more = [it for it in left if is_named(it[2], words)]
+            if not more:
+                return sorted(reached)
+            reached += more
+            left = [it for it in left if it not in more]
+            words |= {*WORD.findall("".join(text for _, _, text in more))}
+
+    def spec(self, module: Module) -> str:
+        """Returns the text of a module of specs, without comments and names of modules."""
+        crate, path = module
+        with open(f"{self.texts(crate)}/specs/{path}", encoding="utf-8", errors="surrogateescape") as it:
+            return without_remarks(it.read())
+
+    def found(self, crate: str, name: str) -> Module:
+        """Returns the module of specs that this name of a crate leads to: the crate's root where it has no such file, which passes on
+        what it has of others."""
+        parts = name.strip(".").split(".")
+        for count in range(len(parts), 0, -1):
+            path = "/".join(parts[:count]) + ".antt"
+            if os.path.isfile(f"{self.texts(crate)}/specs/{path}"):
+                return crate, path
+        return crate, "Lib.antt"
+
+    def reached(self, crate: str) -> List[Module]:
+        """Returns the modules of specs below this crate that its contracts can mean: those that its own texts name, those by which
+        the types and traits below it are defined, and those that these name."""
+        below = {*self.below(crate)}
+        named = cited("".join(text for _, text in texts_without_tests(self.texts(crate))))
+        for it in sorted(below):
+            for short, text in texts_without_tests(self.texts(it)):
+                if short.endswith(".rt"):
+                    named |= names_of_definitions(short, text)
+        reached: Set[Module] = set()
+        while named:
+            crate_of, name = named.pop()
+            module = self.found(crate_of, name) if crate_of in below else None
+            if module and module not in reached and os.path.isfile(f"{self.texts(crate_of)}/specs/{module[1]}"):
+                reached.add(module)
+                named |= cited(self.spec(module))
+        return sorted(reached)
 
 
 def logic_of_toolchain() -> str:
     """Returns the digest of the logic by which the prover judges. What it refuses doesn't hang on which release of the toolchain has it."""
     version = subprocess.run(["rt", "version"], stdout=subprocess.PIPE, check=True).stdout.decode().strip()
     return version.rpartition(" logic ")[2]
-
-
-STRUCT = re.compile(r"\bstruct\s+\w+[^;{}]*\{")
-PRIVATE_FIELD = re.compile(r"^[ \t]*(?!pub\b|#)\w+[ \t]*:[^\n]*\n", re.M)
-IMPORT = re.compile(r"^[ \t]*(?:use|ghost use|mod|pub mod)\b[^;]*;", re.M)
-PRIVATE_CONSTANT = re.compile(r"^[ \t]*(?:pub\(crate\) )?const\b[^;]*;", re.M)
-PRIVATE_STRUCT = re.compile(r"(?:#\[[^\]]*\]\s*)*(?:\bpub\(crate\) |(?<!pub )\b)struct\s+\w+[^;{}()]*\{")
-VIEW = re.compile(r"\bghost\s+(?:view|inverse|invariant)\s*=\s*\{")
-EMPTY = re.compile(r"\b(?:impl|where)\b[^{};]*\{\s*\}")
-PROMISE = re.compile(r"\bghost\s+(?:laws|hash_input|respects_eq|is_infallible)\s*=\s*\{")
-
-
-def without(opening: re.Pattern[str], text: str) -> str:
-    """Returns the text without what begins so and goes on to the end of the braces that open there."""
-    while True:
-        mask = masked(text)
-        found = opening.search(mask)
-        if not found:
-            return text
-        end = closing(mask, found.end() - 1)
-        text = text[: found.start()] + text[end:].removeprefix(";")
-
-
-def definitions_of(file: str, text: str) -> str:
-    """Returns what a source file defines for others, without comments: its public types, but for private fields, its models, traits
-    and constants, and what it takes a trait's words for, but for laws, for when a call can't fail, and for what a hasher is fed, since
-    promises hold for any hash. Of a type without public fields its view and its invariant are left out too, which no other crate sees. Of
-    functions it has those of traits alone."""
-    kept, last = [], 0
-    for one in sorted(functions_of(file, text).values(), key=lambda it: it.start):
-        is_of_trait = not one.owner and len(one.path) > len(module_of(file)) + 1
-        if not is_of_trait and one.start >= last:
-            kept.append(text[last : one.start])
-            last = one.end
-    rest = PRIVATE_CONSTANT.sub("", IMPORT.sub("", "".join([*kept, text[last:]])))
-    rest = without(PRIVATE_STRUCT, without(PROMISE, rest))
-    while True:
-        mask = masked(rest)
-        fields = [(it.end() - 1, closing(mask, it.end() - 1)) for it in STRUCT.finditer(mask)]
-        bare = [(start, end) for start, end in fields if PRIVATE_FIELD.search(mask, start, end)]
-        if not bare:
-            return re.sub(r" +", " ", EMPTY.sub("", code_of(rest))).strip()
-        start, end = bare[0]
-        name = re.findall(r"\bstruct\s+(\w+)", rest[:start])[-1]
-        fields = PRIVATE_FIELD.sub("", rest[start:end])
-        rest = rest[:start] + fields + rest[end:]
-        found = re.search(rf"\bModel for {name}\b[^{{}}]*\{{", masked(rest))
-        if found and "pub " not in fields:
-            end = closing(masked(rest), found.end() - 1)
-            rest = rest[: found.start()] + without(VIEW, rest[found.start() : end]) + rest[end:]
 
 
 TESTS = re.compile(r"\s*#\[cfg\(test\)\]\s*mod\s+(\w+)\s*([;{])")

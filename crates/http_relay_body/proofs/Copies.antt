@@ -5,7 +5,8 @@ use Rattle.http_relay_wire.specs.Wires.{Reading}
 use Rattle.http_relay_wire.proofs.KnownBytes.{prepend_twice}
 use Rattle.http_relay_body.specs.declared.response.CopyFault.{CopyFault}
 use Rattle.http_relay_body.specs.declared.response.CopyFault.TheVariants.{NoResponse, CutShort, Client}
-use Rattle.http_relay_body.specs.Copies.{Copied, CopiedOn}
+use Rattle.http_relay_body.specs.Copies.{Copied}
+use Rattle.http_relay_body.specs.Copying.{CopiedOn}
 use Rattle.http_relay_body.proofs.Moves.{appends_both, begins_later}
 
 -- what the first part and the second part read

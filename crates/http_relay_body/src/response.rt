@@ -1,6 +1,7 @@
 ghost use Rattle.std.specs.Prelude.{◌≡◌, ◌<◌, true, length, IfOk, OnOk, IsFalse, IsTrue};
 ghost use Rattle.std.specs.Io.KnownBytes.{IsAtEnd};
-ghost use Rattle.http_relay_body.specs.Copies.{Copied, CopiedOn, has_ended, told, server_faults, client_faults, fault_number};
+ghost use Rattle.http_relay_body.specs.Copies.{Copied, server_faults, client_faults, fault_number};
+ghost use Rattle.http_relay_body.specs.Copying.{CopiedOn, has_ended, told};
 
 use http_relay_wire::{Wire, WireFault, write_all};
 use thiserror::Error;

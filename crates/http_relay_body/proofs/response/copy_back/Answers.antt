@@ -1,5 +1,5 @@
 use Rattle.std.proofs.Common.{Ok, subst}
-use Rattle.http_relay_body.specs.Copies.{CopiedOn, told}
+use Rattle.http_relay_body.specs.Copying.{CopiedOn, told}
 use Rattle.http_relay_body.proofs.Copies.{copied_twice}
 use Rattle.http_relay_body.proofs.response.copy_back.Goals as goal
 
