@@ -2,6 +2,7 @@ pub mod Chunking
 pub mod Copies
 pub mod Cuts
 pub mod Finishes
+pub mod Fronts
 pub mod Inputs
 pub mod Lines
 pub mod Moves

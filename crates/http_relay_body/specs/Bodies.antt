@@ -1,6 +1,6 @@
 -- The bodies of requests: RFC 9112, section 6.3 (none, so many bytes) and section 7.1 (chunks).
 use Rattle.std.specs.Prelude.{◌≡◌, ℕ, List, [], ◌++◌, length, Result, Ok, Err}
-use Rattle.http_relay_body.specs.Chunks.{IsChunked}
+use Rattle.http_relay_body.specs.Chunks.{Chunk, IsChunk, print_chunk, IsChunked}
 use Rattle.http_relay_forward.specs.HeadView.{HeadView}
 use Rattle.http_relay_forward.specs.Framing.{framing}
 use Rattle.http_relay_forward.specs.declared.framing.BodyKind.{BodyKind}
@@ -34,3 +34,19 @@ JudgesInput kind input (Err Truncated) = ¬ BeginsWithBody kind input × MayBeco
 JudgesInput kind input (Err BadChunk) = ¬ BeginsWithBody kind input
 JudgesInput kind input (Err (Client fault)) = Unit {0}
 JudgesInput kind input (Err (Server fault)) = Unit {0}
+
+-- the bytes are the front of each body of this kind that begins with them, and behind them stands one of that kind
+abbrev pub IsFront : BodyKind → List ℕ → BodyKind → Type 0
+IsFront kind front rest_kind =
+    (rest : List ℕ) → (IsBody rest_kind rest → IsBody kind (front ++ rest)) × (BeginsWithBody kind (front ++ rest) → BeginsWithBody rest_kind rest)
+
+-- a chunk stands at the front of the text
+abbrev pub BeginsWithChunk : List ℕ → Type 0
+BeginsWithChunk text = (chunk : Chunk) × (rest : List ℕ) × IsChunk chunk × (text ≡ print_chunk chunk ++ rest)
+
+-- of a body of this kind nothing whole stands at the front of the text: the body is empty, or the text is; or no chunk stands there
+-- and not the last one's line with the trailer
+abbrev pub HasNothingWhole : BodyKind → List ℕ → Type 0
+HasNothingWhole Empty text = Unit {0}
+HasNothingWhole (Length count) text = text ≡ []
+HasNothingWhole Chunked text = ¬ BeginsWithChunk text × ¬ BeginsWithBody Chunked text

@@ -2,6 +2,7 @@ pub mod Bodies
 pub mod Chunks
 pub mod Copies
 pub mod Copying
+pub mod Fronts
 pub mod Moves
 pub mod Parts
 pub mod Rooms

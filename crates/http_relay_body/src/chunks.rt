@@ -7,11 +7,13 @@ ghost use Rattle.http_relay_body.specs.Rooms.{stand, Passed};
 mod data;
 mod part;
 mod room;
+mod whole;
 
 use crate::at_hand::AtHand;
 use crate::chunks::data::pass_data;
 use crate::chunks::part::{Part, pass_part};
 use crate::chunks::room::Room;
+pub(crate) use crate::chunks::whole::whole_chunks;
 use crate::fault::BodyFault;
 use http_relay_wire::Wire;
 

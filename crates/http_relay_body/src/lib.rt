@@ -9,16 +9,18 @@
 //! Start at `send_body`, whose words are in `specs/Bodies.antt`. It rests on `length`, which passes on so many bytes by the words
 //! of `specs/Moves.antt`, and on `chunks`, whose bodies are in `specs/Chunks.antt`: there `part` judges the parts of a body, each of
 //! which says how many bytes must still come, in a `room` from which goes out what was judged. `copy_back` is in `response`, with its
-//! words in `specs/Copies.antt`.
+//! words in `specs/Copies.antt`. `BodyFront::of` says how much of a body came whole with its head, so that it can go out with it.
 #![tactic(auto)]
 
 mod at_hand;
 mod chunks;
 mod fault;
+mod front;
 mod length;
 mod response;
 mod sending;
 
 pub use fault::BodyFault;
+pub use front::BodyFront;
 pub use response::{CopyFault, copy_back};
 pub use sending::send_body;

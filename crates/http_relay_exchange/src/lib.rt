@@ -7,6 +7,7 @@
 
 mod exchanging;
 mod fault;
+mod heading;
 mod request;
 mod sending;
 

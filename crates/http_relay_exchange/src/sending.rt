@@ -2,12 +2,15 @@ ghost use Rattle.std.specs.Prelude.{◌≡◌};
 ghost use Rattle.http_relay_dial.specs.Dials.{talk_of};
 ghost use Rattle.http_relay_exchange.specs.Exchanges.{Invites, Sent};
 
+use crate::heading::send_head;
 use crate::{Outgoing, SendFault};
 use http_relay_body::send_body;
 use http_relay_forward::continue_text;
 use http_relay_wire::{Wire, WireFault, write_all};
 
-/// Sends the request: the client is told to go on where it waits for that, and then head and body go to the server.
+/// Sends the request: the client is told to go on where it waits for that, and then head and body go to the server. What of the
+/// body came with the client's head goes out with the head: of a body of so many bytes all of it, and of a chunked one the chunks
+/// that came whole.
 pub(crate) fn send_request<C: Wire, S: Wire>(
     request: &Outgoing<'_>,
     client: &mut C,
@@ -20,10 +23,9 @@ pub(crate) fn send_request<C: Wire, S: Wire>(
     if let Err(fault) = invite(request, client) {
         return Err(SendFault::Continue(fault));
     }
-    if let Err(fault) = write_all(server, request.head()) {
-        return Err(SendFault::Head(fault));
-    }
-    match send_body(request.kind(), request.behind(), client, server) {
+    let front = send_head(request, server)?;
+    let behind = &request.behind()[front.len..];
+    match send_body(front.rest, behind, client, server) {
         Ok(()) => Ok(()),
         Err(fault) => Err(SendFault::Body(fault)),
     }

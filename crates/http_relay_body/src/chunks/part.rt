@@ -68,6 +68,13 @@ pub(crate) fn pass_part<C: Wire, S: Wire>(
     }
 }
 
+/// Looks for the part in a text of which nothing was looked at before.
+pub(crate) fn sight_of(part: Part, text: &[u8]) -> Sight
+    ensures { Sees part text.now result }
+{
+    look(part, &mut Walk::new(), text)
+}
+
 /// Looks for the part in this text. A trailer is looked for by a walk that has come through a front of the text.
 fn look(part: Part, walk: &mut Walk, text: &[u8]) -> Sight
     requires { Walked walk.old text.now }

@@ -1,19 +1,38 @@
-use Rattle.std.proofs.Common.{Err, ◌∙◌, ap}
-use Rattle.std.specs.Io.KnownBytes.{append_known}
+use Rattle.std.proofs.Common.{drop, Ok, Err, ◌∙◌, ap}
+use Rattle.http_relay_body.proofs.Fronts.{behind, behind_is}
 use Rattle.http_relay_dial.specs.Dials.{talk_of}
-use Rattle.http_relay_exchange.proofs.Stages.{sends_body}
+use Rattle.http_relay_exchange.proofs.Stages.{head_handed, sends_rest}
 use Rattle.http_relay_exchange.proofs.sending.send_request.Goals as goal
+
+pub returns-in_err-front : goal.returns-in_err-front
+returns-in_err-front g c =
+    let client = talk_of g.C.Wire.written g.C.Wire.reading g.C.Wire.faults in
+    let server = talk_of g.S.Wire.written g.S.Wire.reading g.S.Wire.faults in
+    head_handed c.args.request.now (client c.args.client.now) (client c.invite.new.client) (server c.args.server.now) (server c.send_head.new.server)
+    c.from_residual.result _ c.from_residual.ensures.1 c.in_default.ensures c.in_err-front.ensures
+
+pub returns-in-Ok : goal.returns-in-Ok
+returns-in-Ok g c =
+    let client = talk_of g.C.Wire.written g.C.Wire.reading g.C.Wire.faults in
+    let server = talk_of g.S.Wire.written g.S.Wire.reading g.S.Wire.faults in
+    let front = c.in_ok-front.front in
+    let told = c.in-Ok.ensures in
+    sends_rest c.args.request.now front (behind front.len c.behind.result.now)
+    (client c.args.client.now) (client c.invite.new.client) (client c.send_body.new.client)
+    (server c.args.server.now) (server c.send_head.new.server) (server c.send_body.new.server)
+    (Ok c.in-Ok.field-0)
+    (behind_is front.len c.behind.result.now ∙ ap (drop front.len) c.behind.ensures) c.in_default.ensures c.in_ok-front.ensures
+    told.sent told.client told.server told.client_written told.server_reading
 
 pub returns-in-Err-send_body : goal.returns-in-Err-send_body
 returns-in-Err-send_body g c =
     let client = talk_of g.C.Wire.written g.C.Wire.reading g.C.Wire.faults in
     let server = talk_of g.S.Wire.written g.S.Wire.reading g.S.Wire.faults in
-    let headed = c.in_default-write_all.ensures in
+    let front = c.in_ok-front.front in
     let told = c.in-Err-send_body.ensures in
-    sends_body c.args.request.now c.kind.result c.behind.result.now
+    sends_rest c.args.request.now front (behind front.len c.behind.result.now)
     (client c.args.client.now) (client c.invite.new.client) (client c.send_body.new.client)
-    (server c.args.server.now) (server c.write_all.new.wire) (server c.send_body.new.server)
+    (server c.args.server.now) (server c.send_head.new.server) (server c.send_body.new.server)
     (Err c.in-Err-send_body.fault)
-    c.kind.ensures c.behind.ensures c.in_default.ensures
-    (headed.ok ∙ ap (append_known (g.S.Wire.written c.args.server.now)) c.head.ensures) headed.faults headed.reading
+    (behind_is front.len c.behind.result.now ∙ ap (drop front.len) c.behind.ensures) c.in_default.ensures c.in_ok-front.ensures
     told.sent told.client told.server told.client_written told.server_reading

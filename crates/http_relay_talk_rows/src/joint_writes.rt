@@ -1,0 +1,126 @@
+use http_relay_body::BodyFault;
+use http_relay_exchange::{ExchangeFault, Outgoing, SendFault, exchange};
+use http_relay_forward::BodyKind;
+use http_relay_wire::{Script, ScriptedWire, WireFault};
+use std::alloc::Global;
+
+const HEAD: &[u8] = b"POST /e HTTP/1.1\r\nConnection: close\r\n\r\n";
+
+const RESPONSE: &[u8] = b"HTTP/1.1 200 OK\r\n\r\nok";
+
+const FORM: [u8; 500] = [b'f'; 500];
+
+// A server that takes at most so many bytes at a write, and whose write of this number fails.
+fn server(alloc: Global, most: usize, failing: u64) -> ScriptedWire<'static> {
+    let script = Script {
+        most_written: most,
+        failing_write: Some((failing, WireFault::Timeout)),
+        ..Script::SMOOTH
+    };
+    ScriptedWire::new(alloc, RESPONSE, script)
+}
+
+// What went out in the first write, where the server takes all at once: all of it is there before the second fails, and nothing
+// before the first does. What came behind the head is told apart from what the client sends later.
+#[test]
+fn a_head_and_what_came_of_its_body_go_out_in_one_write(rt: HostRuntime) {
+    let cases = [
+        (
+            BodyKind::Empty,
+            b"".as_slice(),
+            b"".as_slice(),
+            b"".as_slice(),
+        ),
+        (BodyKind::Empty, b"GET", b"", b""),
+        (BodyKind::Length(500), &FORM, b"", &FORM),
+        (BodyKind::Length(2), b"hiGET", b"", b"hi"),
+        (BodyKind::Length(2), b"h", b"i", b"h"),
+        (BodyKind::Length(2), b"", b"hi", b""),
+        (BodyKind::Length(0), b"GET", b"", b""),
+        (
+            BodyKind::Chunked,
+            b"2\r\nhi\r\n0\r\n\r\n",
+            b"",
+            b"2\r\nhi\r\n0\r\n\r\n",
+        ),
+        (
+            BodyKind::Chunked,
+            b"0\r\na: b\r\n\r\nGET",
+            b"",
+            b"0\r\na: b\r\n\r\n",
+        ),
+        (
+            BodyKind::Chunked,
+            b"2\r\nhi\r\n2\r\nh",
+            b"o\r\n0\r\n\r\n",
+            b"2\r\nhi\r\n",
+        ),
+        (
+            BodyKind::Chunked,
+            b"2\r\nhi\r\n0\r\na: b\r\n",
+            b"\r\n",
+            b"2\r\nhi\r\n",
+        ),
+        (BodyKind::Chunked, b"2\r\nhi\r", b"\n0\r\n\r\n", b""),
+        (BodyKind::Chunked, b"2\r\nhi\r\nx", b"", b"2\r\nhi\r\n"),
+    ];
+    for (kind, behind, later, together) in cases {
+        let request = Outgoing::new(HEAD, kind, behind, false);
+        let mut client = ScriptedWire::new(rt.alloc(), later, Script::SMOOTH);
+        let mut none_taken = server(rt.alloc(), usize::MAX, 0);
+        let none = exchange(&request, &mut client, &mut none_taken);
+        let untouched = client.unread() == later;
+        let mut one_taken = server(rt.alloc(), usize::MAX, 1);
+        let _one = exchange(&request, &mut client, &mut one_taken);
+        assert!(rt;
+            none == Err(ExchangeFault::Send(SendFault::Head(WireFault::Timeout)))
+                && none_taken.written().is_empty()
+                && untouched
+                && one_taken.written().strip_prefix(HEAD) == Some(together),
+            "{kind:?} {behind:?}"
+        );
+    }
+}
+
+// How a request fails whose second write fails, when the first took so many bytes.
+fn second_fails(taken: usize, all: usize) -> Option<SendFault> {
+    if taken < HEAD.len() {
+        return Some(SendFault::Head(WireFault::Timeout));
+    }
+    if taken < all {
+        return Some(SendFault::Body(BodyFault::Server(WireFault::Timeout)));
+    }
+    None
+}
+
+// Wherever the first write ends: what goes out is whole, and a fault in the next write is the head's before its end, and the body's behind.
+#[test]
+fn a_write_may_end_anywhere_in_head_and_body(rt: HostRuntime) {
+    for (kind, body) in [
+        (BodyKind::Length(500), FORM.as_slice()),
+        (BodyKind::Chunked, b"2\r\nhi\r\n0\r\n\r\n"),
+    ] {
+        let request = Outgoing::new(HEAD, kind, body, false);
+        let all = HEAD.len() + body.len();
+        for taken in 1..=all {
+            let mut client = ScriptedWire::new(rt.alloc(), b"", Script::SMOOTH);
+            let mut slow = server(rt.alloc(), taken, u64::MAX);
+            let whole = exchange(&request, &mut client, &mut slow);
+            let mut failing = server(rt.alloc(), taken, 1);
+            let cut = exchange(&request, &mut client, &mut failing);
+            let cause = match cut {
+                Ok(_) => None,
+                Err(ExchangeFault::Send(fault)) => Some(fault),
+                Err(ExchangeFault::Copy(_)) => Some(SendFault::Continue(WireFault::Broken)),
+            };
+            assert!(rt;
+                whole == Ok(RESPONSE.len() as u64)
+                    && slow.written().strip_prefix(HEAD) == Some(body)
+                    && cause == second_fails(taken, all)
+                    && slow.written().starts_with(failing.written())
+                    && failing.written().len() == taken,
+                "{kind:?} {taken}"
+            );
+        }
+    }
+}
