@@ -2,16 +2,13 @@
 
 from __future__ import annotations
 
-import itertools
 import signal
 import threading
-import time
-from dataclasses import dataclass
 
 from .answers import CONTINUE, own
 from .cases import case, expect, expect_equal, wait_until
 from .clients import Client, ask, at_once, get, is_refused
-from .farms import LIMITS, TABLE, Balancer, Entry, Farm, ends_well, listen, server
+from .farms import LIMITS, TABLE, Balancer, Farm, ends_well, listen, server
 from .origins import Gate, Talk, answers, response
 from .pins import shown_keys
 from .replaying import replies_differ
@@ -198,69 +195,6 @@ def a_drain_under_load_moves_every_pin_and_loses_no_request(farm: Farm) -> None:
     changes = [[one != other for one, other in zip(answers_of_one, answers_of_one[1:])].count(True) for answers_of_one in seen]
     expect("no key goes to and fro", max(changes) <= 1)
     ends_well(balancer)
-
-
-@case
-def a_planner_that_is_overtaken_plans_anew_and_the_third_time_while_all_others_wait(farm: Farm) -> None:
-    port, origin = farm.port(), farm.origin()
-    names = [f"s{number}" for number in range(40)]
-    lines = ("stick-table type string size 2000", "stick on hdr(x-id)")
-    wants = [f"use-server {name} if {{ path /{name} }}" for name in names[:20]]
-    balancer = farm.start(
-        listen(port, *LIMITS, *lines, "option evacuate", *wants, *(server(name, origin, "maxpins 60") for name in names)),
-        ("tune.relays 16", "tune.tries 3"),
-    )
-    done = threading.Event()
-
-    def comes(number: int) -> None:
-        """Makes new pins, of which many want a server and are at another."""
-        for place in itertools.count():
-            if done.is_set():
-                return
-            ask(port, f"GET /s{place % 40} HTTP/1.1\r\nx-id: {number}.{place}\r\n\r\n".encode())
-
-    def drains() -> None:
-        wait_until("many pins", lambda: balancer.tell("show table web").count("\n") > 1900)
-        for place in range(60):
-            balancer.tell(f"set server web/s{place % 40} state drain")
-            time.sleep(0.05)
-            balancer.tell(f"set server web/s{place % 40} state ready")
-            if place > 4 and any(len(plans) == 3 for plans in evacuations(balancer.journal("web"))):
-                break
-        done.set()
-
-    at_once(lambda number: comes(number) if number < 12 else drains(), range(13))
-    found = evacuations(balancer.journal("web"))
-    expect("each ends with a plan that is installed", all(plans[-1].is_installed for plans in found))
-    expect("others were stale", not any(plan.is_installed for plans in found for plan in plans[:-1]))
-    expect("a plan is stale where another event came between", all(plan.gap > 1 for plans in found for plan in plans if not plan.is_installed))
-    expect("some planned three times", any(len(plans) == 3 for plans in found))
-    expect("none planned more often", all(len(plans) <= 3 for plans in found))
-    expect("the third time nobody came between", all(plans[2].gap == 1 for plans in found if len(plans) == 3))
-    ends_well(balancer)
-
-
-@dataclass(frozen=True)
-class Planned:
-    """A plan of a journal: by how much the number of its install is greater than that of its sheet, and whether it was installed."""
-
-    gap: int
-    is_installed: bool
-
-
-def evacuations(entries: list[Entry]) -> list[list[Planned]]:
-    """The plans of a journal, up to each that was installed. Its last ones may have had no time for that."""
-    found: list[list[Planned]] = [[]]
-    begun = 0
-    for entry in entries:
-        if entry.event == "snapshot":
-            begun = entry.number
-        elif entry.event.startswith("install "):
-            plan = Planned(entry.number - begun, entry.reply.startswith("installed "))
-            found[-1].append(plan)
-            if plan.is_installed:
-                found.append([])
-    return found[:-1]
 
 
 @case
