@@ -16,7 +16,7 @@ struct Counted {
     is_settable: bool,
 }
 
-fn counted(ready: u32, is_settable: bool) -> Counted {
+fn stream_of(ready: u32, is_settable: bool) -> Counted {
     Counted {
         ready,
         blocks: Cell::new(false),
@@ -69,7 +69,7 @@ const ROWS: &[(u32, u32, u32)] = &[(0, 0, 0), (2, 2, 0), (0, 1, 2), (1, 2, 2), (
 #[test]
 fn a_stream_is_set_where_it_has_to_wait(rt: HostRuntime) -> Result<(), Fail> {
     for (ready, calls, wanted) in ROWS {
-        let mut stream = EagerStream::new(counted(*ready, true));
+        let mut stream = EagerStream::new(stream_of(*ready, true));
         let mut moved: u32 = 0;
         for call in 0..*calls {
             let count = match call % 2 {
@@ -90,7 +90,7 @@ fn a_stream_is_set_where_it_has_to_wait(rt: HostRuntime) -> Result<(), Fail> {
 // A call that has to wait fails where the stream can't be set, and one that needn't doesn't.
 #[test]
 fn a_stream_that_cannot_be_set_fails(rt: HostRuntime) -> Result<(), Fail> {
-    let mut stream = EagerStream::new(counted(1, false));
+    let mut stream = EagerStream::new(stream_of(1, false));
     let first = stream.write(b"x")?;
     let second = stream.read(&mut [0; 1]).is_err();
     assert!(rt; first == 1 && second && stream.into_stream().is_ok());
