@@ -1,3 +1,5 @@
+ghost use Rattle.std.specs.Prelude.{◌≤◌, IfOk};
+
 use http_relay_socket::EagerStream;
 use std::cell::Cell;
 use std::io;
@@ -26,12 +28,15 @@ fn stream_of(ready: u32, is_settable: bool) -> Counted {
 }
 
 impl Counted {
-    fn answer(&mut self, length: usize) -> io::Result<usize> {
+    // Moves a byte of so many.
+    fn answer(&mut self, most: usize) -> io::Result<usize>
+        ensures { IfOk result (λ count. count ≤ most) }
+    {
         if self.ready == 0 && !self.blocks.get() {
             return Err(ErrorKind::WouldBlock.into());
         }
         self.ready = self.ready.saturating_sub(1);
-        Ok(length.min(1))
+        Ok(most.min(1))
     }
 }
 
