@@ -1,8 +1,8 @@
 ghost use Rattle.std.specs.Prelude.{◌≡◌, length, IfOk};
 
-use crate::Host;
 use crate::bells::Bells;
 use crate::floor::{Floor, RunSeat};
+use crate::{Host, SharedGate};
 use command_socket_listen::{CommandListener, LineStream};
 use command_socket_serve::{Console, Next, named_backend, serve_connection};
 use http_relay_socket::end_gently;
@@ -10,7 +10,7 @@ use lb_answers::NamedBackend;
 use lb_config::BackendConfig;
 use lb_desk_backend::backend_of;
 use lb_desk_model::Backend;
-use lb_desk_ports::{OpenGate, Refused};
+use lb_desk_ports::Refused;
 use lb_desk_shared::Naming;
 use std::alloc::{AllocError, Global};
 
@@ -18,17 +18,16 @@ use std::alloc::{AllocError, Global};
 const ROOM: usize = 4096;
 
 /// Answers operators, one after another, until one of them says `stop` or the balancer ends for another cause.
-pub(crate) fn answer_operators<R: Host, B: Naming>(
+pub(crate) fn answer_operators<R: Host, B: Naming, G: SharedGate<R>>(
     rt: &R,
-    floor: &Floor<'_, B>,
+    floor: &Floor<'_, B, G>,
     listener: &CommandListener,
     bells: Bells<'_, R>,
 ) -> Result<(), Refused> {
     let configs = floor.config.backends();
     let backends = backends_of(floor.alloc, configs)?;
     let names = names_of(floor.alloc, configs, &backends)?;
-    let gate = OpenGate;
-    let console = Console::new(floor.config, &names, &gate);
+    let console = Console::new(floor.config, &names, &floor.gate);
     let mut bells = bells;
     let mut seats = floor.seats(rt)?;
     answer_each(rt, floor, listener, &console, &mut seats, &mut bells);
@@ -37,11 +36,11 @@ pub(crate) fn answer_operators<R: Host, B: Naming>(
 }
 
 /// Answers one operator after another.
-fn answer_each<R: Host, B: Naming>(
+fn answer_each<R: Host, B: Naming, G: SharedGate<R>>(
     rt: &R,
-    floor: &Floor<'_, B>,
+    floor: &Floor<'_, B, G>,
     listener: &CommandListener,
-    console: &Console<'_, OpenGate>,
+    console: &Console<'_, G>,
     seats: &mut [RunSeat<'_, B>],
     bells: &mut Bells<'_, R>,
 )

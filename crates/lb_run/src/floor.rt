@@ -16,7 +16,7 @@ pub(crate) type RunSeat<'a, B> = Seat<'a, RandomState, B>;
 
 /// What all threads of the balancer share.
 #[derive(Drop)]
-pub(crate) struct Floor<'a, B: Naming> {
+pub(crate) struct Floor<'a, B: Naming, G: Drop> {
     pub(crate) alloc: Global,
     pub(crate) config: &'a Config,
     /// The desks of the configuration's backends, in their order.
@@ -28,10 +28,12 @@ pub(crate) struct Floor<'a, B: Naming> {
     pub(crate) starved: &'a AtomicBool,
     /// The moment from which the clocks of all threads count.
     pub(crate) start: Instant,
+    /// What workers, planners and the operators' thread pass at their points.
+    pub(crate) gate: G,
     pub(crate) ghost complete: { length desks.now ≡ length config.now.backends },
 }
 
-impl<'a, B: Naming> Floor<'a, B> {
+impl<'a, B: Naming, G: Drop> Floor<'a, B, G> {
     /// Tells all threads to end.
     pub(crate) fn stop(&self) {
         self.stop.store(true, Ordering::SeqCst);

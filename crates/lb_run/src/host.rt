@@ -1,3 +1,4 @@
+use lb_desk_ports::Gate;
 use std::net::{Net, TcpListener, TcpStream};
 use std::random::RandomSource;
 use std::sync::Wait;
@@ -22,3 +23,8 @@ impl<
         + RandomSource
         + Net<Listener = TcpListener, Stream = TcpStream>,
 > Host for R {}
+
+/// A gate that all threads pass, each by a copy of it.
+pub trait SharedGate<R>: Gate<R> + Copy + Drop + Send + Sync {}
+
+impl<R, G: Gate<R> + Copy + Drop + Send + Sync> SharedGate<R> for G {}

@@ -23,6 +23,6 @@ mod starting;
 mod threads;
 
 pub use fault::RunFault;
-pub use host::Host;
+pub use host::{Host, SharedGate};
 pub use job::run_text;
-pub use running::run_config;
+pub use running::{run_config, run_config_past};

@@ -4,10 +4,10 @@ ghost use Rattle.lb_run_desks.specs.NewDesks.{AreNamed};
 use crate::closing::close_all;
 use crate::floor::Floor;
 use crate::starting::start_and_answer;
-use crate::{Host, RunFault};
+use crate::{Host, RunFault, SharedGate};
 use command_socket_listen::CommandListener;
 use lb_config::Config;
-use lb_desk_ports::Refused;
+use lb_desk_ports::{OpenGate, Refused};
 use lb_desk_shared::{Naming, SharedDesk};
 use lb_run_desks::{NewDesk, PassBox, named_desks, new_desks};
 use lb_run_doors::{ClientDoor, Doors};
@@ -31,22 +31,34 @@ pub fn run_config<R: Host + Files, W: Write>(
     config: &Config,
     out: &mut W,
 ) -> Result<(), RunFault> {
+    run_config_past(rt, alloc, config, OpenGate, out)
+}
+
+/// The same, where workers, planners and the operators' thread pass this gate at their points, so that a test can hold them there.
+pub fn run_config_past<R: Host + Files, G: SharedGate<R>, W: Write>(
+    rt: &R,
+    alloc: Global,
+    config: &Config,
+    gate: G,
+    out: &mut W,
+) -> Result<(), RunFault> {
     let (Ok(hasher), Ok(start)) = (RandomState::new(rt), Instant::now(rt)) else {
         return Err(RunFault::System);
     };
     let desks = new_desks(alloc, config.backends(), hasher)?;
     let doors = Doors::open(rt, alloc, config)?;
-    run_named::<R, Brand, W>(rt, alloc, config, start, desks, doors, out)
+    run_named::<R, Brand, G, W>(rt, alloc, config, start, desks, doors, gate, out)
 }
 
 /// The same, with desks whose name is picked.
-fn run_named<R: Host + Files, B: Naming + Send + Sync, W: Write>(
+fn run_named<R: Host + Files, B: Naming + Send + Sync, G: SharedGate<R>, W: Write>(
     rt: &R,
     alloc: Global,
     config: &Config,
     start: Instant,
     desks: Vec<NewDesk<RandomState>>,
     doors: Doors,
+    gate: G,
     out: &mut W,
 ) -> Result<(), RunFault>
     requires names { AreNamed B.table_of B.opening desks.items }
@@ -54,7 +66,7 @@ fn run_named<R: Host + Files, B: Naming + Send + Sync, W: Write>(
 {
     let desks = named_desks::<RandomState, B>(alloc, desks)?;
     let passes = PassBox::new(alloc, most_passes(config))?;
-    serve(rt, alloc, config, start, &desks, &passes, doors)?;
+    serve(rt, alloc, config, start, &desks, &passes, doors, gate)?;
     close_all(alloc, config, desks, passes.into_passes(), out)
 }
 
@@ -65,7 +77,7 @@ fn most_passes(config: &Config) -> usize {
 }
 
 /// Runs all threads, and returns once all of them have ended and the operators' address is free again.
-fn serve<R: Host + Files, B: Naming + Send + Sync>(
+fn serve<R: Host + Files, B: Naming + Send + Sync, G: SharedGate<R>>(
     rt: &R,
     alloc: Global,
     config: &Config,
@@ -73,6 +85,7 @@ fn serve<R: Host + Files, B: Naming + Send + Sync>(
     desks: &[SharedDesk<RandomState, B>],
     passes: &PassBox<B>,
     doors: Doors,
+    gate: G,
 ) -> Result<(), RunFault>
     requires { length desks.now ≡ length config.now.backends }
 {
@@ -86,6 +99,7 @@ fn serve<R: Host + Files, B: Naming + Send + Sync>(
         stop: &stop,
         starved: &starved,
         start,
+        gate,
     };
     let Doors { clients, commands } = doors;
     let served = serve_on(rt, &floor, clients, commands.as_ref());
@@ -101,9 +115,9 @@ fn serve<R: Host + Files, B: Naming + Send + Sync>(
 }
 
 /// Runs all threads on the floor.
-fn serve_on<R: Host, B: Naming + Send + Sync>(
+fn serve_on<R: Host, B: Naming + Send + Sync, G: SharedGate<R>>(
     rt: &R,
-    floor: &Floor<'_, B>,
+    floor: &Floor<'_, B, G>,
     clients: Vec<ClientDoor>,
     operators: Option<&CommandListener>,
 ) -> Result<(), Refused> {

@@ -1,10 +1,10 @@
 //! Starting threads. Each runs in the scope that it is given, and ends by the flag of the floor or by the end of a channel.
-use crate::Host;
 use crate::announcer::say;
 use crate::bells::Bells;
 use crate::commands::answer_operators;
 use crate::floor::Floor;
 use crate::threads::{check, listen, plan, relay};
+use crate::{Host, SharedGate};
 use command_socket_listen::CommandListener;
 use crossbeam_channel::{Receiver, Sender, bounded};
 use http_relay_lobby::{Arrival, waiting_line};
@@ -25,10 +25,10 @@ const TICK_MILLIS: u64 = 100;
 
 /// Starts all threads, and answers operators in this one until the balancer is to end. Returning, it lets go of all channels, by whose
 /// ends checks and planners end.
-pub(crate) fn start_and_answer<'s, E, R: Host, B: Naming + Send + Sync>(
+pub(crate) fn start_and_answer<'s, E, R: Host, B: Naming + Send + Sync, G: SharedGate<R>>(
     rt: &'s R,
     scope: &'s Scope<'s, E>,
-    floor: &'s Floor<'s, B>,
+    floor: &'s Floor<'s, B, G>,
     doors: Vec<ClientDoor>,
     operators: Option<&CommandListener>,
 ) -> Result<(), Refused> {
@@ -61,7 +61,7 @@ fn say_listening<R: Host>(rt: &R, alloc: Global, doors: &[ClientDoor]) -> Result
 }
 
 /// Waits until a thread ends the balancer.
-fn wait_for_end<R: Host, B: Naming>(rt: &R, floor: &Floor<'_, B>) {
+fn wait_for_end<R: Host, B: Naming, G: Drop>(rt: &R, floor: &Floor<'_, B, G>) {
     for _ in rt.forever() {
         if floor.stop.load(Ordering::SeqCst) {
             break;
@@ -71,10 +71,10 @@ fn wait_for_end<R: Host, B: Naming>(rt: &R, floor: &Floor<'_, B>) {
 }
 
 /// Starts the planner of each backend that moves pins by itself, and gives their bells, at the backends' places.
-fn start_planners<'s, E, R: Host, B: Naming + Send + Sync>(
+fn start_planners<'s, E, R: Host, B: Naming + Send + Sync, G: SharedGate<R>>(
     rt: &'s R,
     scope: &'s Scope<'s, E>,
-    floor: &'s Floor<'s, B>,
+    floor: &'s Floor<'s, B, G>,
 ) -> Result<Vec<Option<Bell>>, AllocError> {
     let mut bells = Vec::new(floor.alloc);
     for (place, backend) in floor.config.backends().iter().enumerate() {
@@ -90,10 +90,10 @@ fn start_planners<'s, E, R: Host, B: Naming + Send + Sync>(
 }
 
 /// Starts the thread that checks servers of each backend that has such servers.
-fn start_checks<'s, E, R: Host, B: Naming + Send + Sync>(
+fn start_checks<'s, E, R: Host, B: Naming + Send + Sync, G: SharedGate<R>>(
     rt: &'s R,
     scope: &'s Scope<'s, E>,
-    floor: &'s Floor<'s, B>,
+    floor: &'s Floor<'s, B, G>,
     bells: &[Option<Bell>],
     ends: Receiver<()>,
 ) -> Result<(), AllocError> {
@@ -123,10 +123,10 @@ fn copy_of(bell: Option<&Option<Bell>>) -> Result<Option<Bell>, AllocError> {
 }
 
 /// Starts as many workers as the configuration says.
-fn start_workers<'s, E, R: Host, B: Naming + Send + Sync>(
+fn start_workers<'s, E, R: Host, B: Naming + Send + Sync, G: SharedGate<R>>(
     rt: &'s R,
     scope: &'s Scope<'s, E>,
-    floor: &'s Floor<'s, B>,
+    floor: &'s Floor<'s, B, G>,
     arrivals: Receiver<Arrival<TcpStream>>,
 ) -> Result<(), AllocError> {
     for _ in 0..floor.config.relays() {
@@ -137,10 +137,10 @@ fn start_workers<'s, E, R: Host, B: Naming + Send + Sync>(
 }
 
 /// Starts a listener at each door. `to` goes with them, so that the workers end behind the last of them.
-fn start_listeners<'s, E, R: Host, B: Naming + Send + Sync>(
+fn start_listeners<'s, E, R: Host, B: Naming + Send + Sync, G: SharedGate<R>>(
     rt: &'s R,
     scope: &'s Scope<'s, E>,
-    floor: &'s Floor<'s, B>,
+    floor: &'s Floor<'s, B, G>,
     doors: Vec<ClientDoor>,
     to: Sender<Arrival<TcpStream>>,
 ) -> Result<(), AllocError> {

@@ -1,9 +1,9 @@
 //! What each thread does, from its first seat to its last pass. A thread that can't begin ends the balancer.
 ghost use Rattle.std.specs.Prelude.{◌≡◌};
 
-use crate::Host;
 use crate::announcer::Announcer;
 use crate::floor::Floor;
+use crate::{Host, SharedGate};
 use check_workers_loop::check_until_stopped;
 use check_workers_system::SocketProbe;
 use check_workers_targets::{checks_of, targets_of};
@@ -12,15 +12,15 @@ use http_relay_lobby::{Arrival, MOST_GUESTS, Rules, gather_until_stopped};
 use http_relay_system::SystemClock;
 use http_relay_work::{Relay, work};
 use lb_desk_planner::{Bell, Notices, plan_when_told};
-use lb_desk_ports::{OpenGate, Refused};
+use lb_desk_ports::Refused;
 use lb_desk_shared::Naming;
 use lb_run_doors::ClientDoor;
 use std::net::TcpStream;
 
 /// Accepts the clients of a frontend, and hands on those whose heads are whole, until the balancer ends.
-pub(crate) fn listen<R: Host, B: Naming>(
+pub(crate) fn listen<R: Host, B: Naming, G: Drop>(
     rt: &R,
-    floor: &Floor<'_, B>,
+    floor: &Floor<'_, B, G>,
     door: ClientDoor,
     to: Sender<Arrival<TcpStream>>,
 ) {
@@ -41,9 +41,9 @@ pub(crate) fn listen<R: Host, B: Naming>(
 }
 
 /// Serves clients until no listener is left and no client waits.
-pub(crate) fn relay<R: Host, B: Naming>(
+pub(crate) fn relay<R: Host, B: Naming, G: SharedGate<R>>(
     rt: &R,
-    floor: &Floor<'_, B>,
+    floor: &Floor<'_, B, G>,
     arrivals: Receiver<Arrival<TcpStream>>,
 ) {
     let Ok(seats) = floor.seats(rt) else {
@@ -54,14 +54,14 @@ pub(crate) fn relay<R: Host, B: Naming>(
         config: floor.config,
         start: floor.start,
     };
-    let seats = work(rt, floor.alloc, relay, &arrivals, OpenGate, seats);
+    let seats = work(rt, floor.alloc, relay, &arrivals, floor.gate, seats);
     floor.leave_all(rt, seats);
 }
 
 /// Checks the servers of the backend at this place until the balancer ends.
-pub(crate) fn check<R: Host, B: Naming>(
+pub(crate) fn check<R: Host, B: Naming, G: Drop>(
     rt: &R,
-    floor: &Floor<'_, B>,
+    floor: &Floor<'_, B, G>,
     place: usize,
     bell: Option<Bell>,
     ends: Receiver<()>,
@@ -71,9 +71,9 @@ pub(crate) fn check<R: Host, B: Naming>(
     }
 }
 
-fn check_backend<R: Host, B: Naming>(
+fn check_backend<R: Host, B: Naming, G: Drop>(
     rt: &R,
-    floor: &Floor<'_, B>,
+    floor: &Floor<'_, B, G>,
     place: usize,
     bell: Option<Bell>,
     ends: &Receiver<()>,
@@ -102,9 +102,9 @@ fn check_backend<R: Host, B: Naming>(
 }
 
 /// Moves pins of the backend at this place each time that its bells ring, until all of them are gone.
-pub(crate) fn plan<R: Host, B: Naming>(
+pub(crate) fn plan<R: Host, B: Naming, G: SharedGate<R>>(
     rt: &R,
-    floor: &Floor<'_, B>,
+    floor: &Floor<'_, B, G>,
     place: usize,
     notices: Notices,
 ) {
@@ -114,6 +114,6 @@ pub(crate) fn plan<R: Host, B: Naming>(
     };
     let mut notices = notices;
     let tries = u32::from(floor.config.tries());
-    plan_when_told(rt, floor.alloc, &mut seat, &OpenGate, tries, &mut notices);
+    plan_when_told(rt, floor.alloc, &mut seat, &floor.gate, tries, &mut notices);
     floor.leave(rt, seat);
 }

@@ -54,20 +54,27 @@ pub fn originate<R: Host>(
 
 /// What comes back for these bytes at this port.
 pub fn ask<R: Host>(rt: &R, alloc: Global, port: u16, bytes: &[u8]) -> Result<Vec<u8>, Fail> {
-    let mut stream = connect(rt, port)?;
-    stream.write_all(bytes)?;
-    let mut answer = Vec::new(alloc);
-    stream.read_to_end(&mut answer)?;
-    Ok(answer)
+    Ok(answer_to(rt, alloc, port, bytes).ok_or("nobody answers")?)
 }
 
-fn connect<R: Host>(rt: &R, port: u16) -> Result<TcpStream, Fail> {
+/// What comes back for these bytes at this port, if somebody listens there and answers in time.
+pub fn answer_to<R: Host>(rt: &R, alloc: Global, port: u16, bytes: &[u8]) -> Option<Vec<u8>> {
+    let mut stream = connect(rt, port)?;
+    stream.write_all(bytes).ok()?;
+    let mut answer = Vec::new(alloc);
+    stream.read_to_end(&mut answer).ok()?;
+    Some(answer)
+}
+
+fn connect<R: Host>(rt: &R, port: u16) -> Option<TcpStream> {
     for _ in 0..TRIES {
         if let Ok(stream) = rt.connect(SocketAddr::V4(local(port))) {
-            stream.set_read_timeout(Some(Duration::from_millis(PATIENCE)))?;
-            return Ok(stream);
+            stream
+                .set_read_timeout(Some(Duration::from_millis(PATIENCE)))
+                .ok()?;
+            return Some(stream);
         }
         thread::sleep(rt, Duration::from_millis(PAUSE));
     }
-    Err(Fail::from("nobody listens"))
+    None
 }
