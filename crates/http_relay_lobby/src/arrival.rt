@@ -1,4 +1,4 @@
-ghost use Rattle.std.specs.Prelude.{◌≤◌, vec_len};
+ghost use Rattle.std.specs.Prelude.{◌≡◌, ◌≤◌, ◌++◌, vec_len, OnOk};
 ghost use Rattle.http_relay_head.specs.declared.scanning.TheConstants.{HEAD_ROOM};
 
 use crossbeam_channel::{Receiver, Sender, bounded};
@@ -9,6 +9,9 @@ use std::net::{Ipv4Addr, SocketAddr};
 
 /// How many connections wait for a worker at most.
 pub const MAX_WAITING: usize = 1024;
+
+/// The least room that is taken for what a client has sent, in bytes.
+const LEAST_ROOM: usize = 64;
 
 /// A connection of a client, on its way to a worker, and what was read of it.
 #[derive(Debug, Drop)]
@@ -68,7 +71,7 @@ impl<S: Drop> Arrival<S> {
             failed,
         } = self;
         let mut head = head;
-        if head.extend_from_slice(bytes).is_err() {
+        if add(&mut head, bytes).is_err() {
             return Err(stream);
         }
         Ok(Arrival {
@@ -95,6 +98,18 @@ impl<S: Drop> Arrival<S> {
     {
         HEAD_ROOM - self.head.len()
     }
+}
+
+/// Adds these bytes, which takes a room of 64 bytes, or of 128, and so on. A listener takes the rooms and workers give them back: the C
+/// library keeps some of each size for each worker, which takes none itself, so that each size costs memory for good.
+fn add(head: &mut Vec<u8>, bytes: &[u8]) -> Result<(), AllocError>
+    ensures { OnOk result (head.new.items ≡ head.old.items ++ bytes.now) }
+{
+    if head.is_empty() {
+        let room = bytes.len().checked_next_power_of_two();
+        head.reserve(room.unwrap_or(LEAST_ROOM).max(LEAST_ROOM))?;
+    }
+    head.extend_from_slice(bytes)
 }
 
 /// The line in which at most 1024 connections wait for workers, which take them from its end in their order. All listeners of a
