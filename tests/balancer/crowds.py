@@ -62,6 +62,28 @@ def clients_that_break_off_anywhere_do_no_harm_to_others(farm: Farm) -> None:
 
 
 @case
+def heads_of_many_sizes_take_no_memory_for_good(farm: Farm) -> None:
+    port = farm.port()
+    balancer = farm.start(listen(port, *LIMITS, server("a", farm.origin())), ("tune.relays 16", "tune.journal 100"))
+
+    def asks(requests: int) -> int:
+        """Asks with heads of 60 bytes to 960, and tells the resident memory behind the last answer."""
+
+        def come(number: int) -> None:
+            for place in range(requests // 8):
+                pad = b"x" * (1 + (place * 8 + number) * 61 % 900)
+                expect_equal("the answer", ask(port, b"GET / HTTP/1.1\r\nHost: x\r\nx-pad: " + pad + b"\r\n\r\n"), A)
+
+        at_once(come, range(8))
+        return balancer.resident()
+
+    # What a thread of the C library keeps for itself of each size is not given back: sizes have to be few.
+    first, last = asks(1000), asks(3000)
+    expect(f"resident memory is level: {first} bytes, and {last} behind 3,000 more requests", last <= first + 600_000)
+    expect_equal("events", ends_well(balancer, whole=False), {"web": 16000})
+
+
+@case
 def a_client_that_never_reads_holds_up_nobody_else_and_is_let_go_at_its_limit(farm: Farm) -> None:
     def sends_much(talk: Talk) -> None:
         if talk.read_request():

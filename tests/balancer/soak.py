@@ -194,6 +194,11 @@ def say(text: str) -> None:
 def judge_memory(sums: Sums, seconds: float) -> list[str]:
     """Resident memory is level behind the first five minutes, or the first third of a shorter run."""
     begin = min(300.0, seconds / 3)
+    step = max(seconds / 15, 5.0)
+    by_step: dict[int, int] = {}
+    for moment, size in sums.resident:
+        by_step[int(moment / step)] = max(size, by_step.get(int(moment / step), 0))
+    say(f"most resident MB in each {step:.0f} s: " + " ".join(f"{size / 1e6:.1f}" for _, size in sorted(by_step.items())))
     late = [size for moment, size in sums.resident if moment > begin]
     if len(late) < 4:
         return []
