@@ -3,11 +3,11 @@
 use crate::farm::{A, B, C, FIRST, Hasher, TWO_MOVED, farm, request, server};
 use crate::marks::{begin, end, tell};
 use dual_cert::{read_plan, read_sheet};
-use lb_desk_model::{Entry, Event, Refusal, Reply, ServedAs, Shared};
+use lb_desk_model::{Backend, Entry, Event, Refusal, Reply, ServedAs, Shared};
 use lb_desk_ports::Refused;
 use lb_desk_step::Desk;
 use lb_types::Moment;
-use pin_set::TablePin;
+use pin_set::{Score, TablePin};
 use rise_fall::Flip;
 use server_state::{AdminState, Change, Checked, Setting};
 use std::alloc::Global;
@@ -76,15 +76,30 @@ impl Stand {
 
 /// A desk with pins at a, b, c and a, of which a is to be left. The first pin was used once more.
 fn desk(alloc: Global) -> Result<Desk<Hasher>, Fail> {
-    let hasher = BuildHasherDefault::<FoldHasher>::new();
     let backend = farm(alloc)?;
-    let mut desk = Desk::open(alloc, &backend, JOURNAL, hasher)?;
-    for (moment, key) in FIRST.iter().enumerate() {
-        desk.step(Event::Serve(request(alloc, moment as u64, *key)?))?;
-    }
-    desk.step(set_a(AdminState::Drain))?;
-    desk.step(Event::Serve(request(alloc, 4, "k1")?))?;
+    let mut desk = opened(alloc, &backend)?;
+    fill(alloc, &mut desk)?;
     Ok(desk)
+}
+
+// A function that has a desk of its own, and many calls behind which it would end, takes the prover minutes. So most lend one out.
+fn opened(alloc: Global, backend: &Backend) -> Result<Desk<Hasher>, Fail> {
+    let hasher = BuildHasherDefault::<FoldHasher>::new();
+    Ok(Desk::open(alloc, backend, JOURNAL, hasher)?)
+}
+
+fn fill(alloc: Global, desk: &mut Desk<Hasher>) -> Result<(), Fail> {
+    for (moment, key) in FIRST.iter().enumerate() {
+        step(desk, Event::Serve(request(alloc, moment as u64, *key)?))?;
+    }
+    step(desk, set_a(AdminState::Drain))?;
+    step(desk, Event::Serve(request(alloc, 4, "k1")?))?;
+    Ok(())
+}
+
+/// Hands in an event. No clause says what is replied, which nobody here asks the prover.
+fn step(desk: &mut Desk<Hasher>, event: Event) -> Result<Reply, Refused> {
+    desk.step(event)
 }
 
 /// An operator's change of a.
@@ -99,24 +114,43 @@ fn set_a(state: AdminState) -> Event {
 fn takes(
     rt: &impl Abort,
     alloc: Global,
-    mut desk: Desk<Hasher>,
+    desk: &mut Desk<Hasher>,
     event: Event,
     owed: &Reply,
 ) -> Result<(), Fail> {
     let again = event.clone()?;
-    let before = Stand::of(alloc, &desk)?;
+    let before = Stand::of(alloc, desk)?;
     begin(alloc)?;
-    let told = desk.step(event);
+    let told = step(desk, event);
     end(alloc)?;
     let reply = match told {
         Ok(reply) => reply,
         Err(refused) => {
-            is_as_before(rt, alloc, &desk, &before, refused)?;
-            desk.step(again)?
+            is_as_before(rt, alloc, desk, &before, refused)?;
+            step(desk, again)?
         }
     };
     assert_eq!(rt; reply, *owed);
     Ok(())
+}
+
+/// The same at a new desk.
+fn takes_anew(rt: &impl Abort, alloc: Global, event: Event, owed: &Reply) -> Result<(), Fail> {
+    let mut desk = desk(alloc)?;
+    takes(rt, alloc, &mut desk, event, owed)
+}
+
+/// The same at a new desk that has taken this event.
+fn takes_behind(
+    rt: &impl Abort,
+    alloc: Global,
+    first: Event,
+    event: Event,
+    owed: &Reply,
+) -> Result<(), Fail> {
+    let mut desk = desk(alloc)?;
+    step(&mut desk, first)?;
+    takes(rt, alloc, &mut desk, event, owed)
 }
 
 fn is_as_before(
@@ -140,7 +174,7 @@ fn a_request_that_makes_a_pin(rt: HostRuntime) -> Result<(), Fail> {
     let alloc = rt.alloc();
     let event = Event::Serve(request(alloc, 5, "k5")?);
     let owed = Reply::Served(server(B), ServedAs::Made);
-    takes(&rt, alloc, desk(alloc)?, event, &owed)
+    takes_anew(&rt, alloc, event, &owed)
 }
 
 #[test]
@@ -148,17 +182,15 @@ fn a_request_that_keeps_its_pin(rt: HostRuntime) -> Result<(), Fail> {
     let alloc = rt.alloc();
     let event = Event::Serve(request(alloc, 5, "k1")?);
     let owed = Reply::Served(server(A), ServedAs::Kept);
-    takes(&rt, alloc, desk(alloc)?, event, &owed)
+    takes_anew(&rt, alloc, event, &owed)
 }
 
 #[test]
 fn a_request_that_moves_its_pin(rt: HostRuntime) -> Result<(), Fail> {
     let alloc = rt.alloc();
-    let mut desk = desk(alloc)?;
-    desk.step(set_a(AdminState::Maint))?;
     let event = Event::Serve(request(alloc, 5, "k1")?);
     let owed = Reply::Served(server(B), ServedAs::Moved);
-    takes(&rt, alloc, desk, event, &owed)
+    takes_behind(&rt, alloc, set_a(AdminState::Maint), event, &owed)
 }
 
 // None of these needs memory. An Expire comes ten seconds after the last use of k2, k3 and k4, and a millisecond before those of k1
@@ -167,25 +199,24 @@ fn a_request_that_moves_its_pin(rt: HostRuntime) -> Result<(), Fail> {
 fn events_that_need_no_memory(rt: HostRuntime) -> Result<(), Fail> {
     let alloc = rt.alloc();
     let open = Event::Open(server(B));
-    takes(&rt, alloc, desk(alloc)?, open, &Reply::Opened)?;
-    let mut connected = desk(alloc)?;
-    connected.step(Event::Open(server(B)))?;
+    takes_anew(&rt, alloc, open, &Reply::Opened)?;
+    let open = Event::Open(server(B));
     let close = Event::Close(server(B));
-    takes(&rt, alloc, connected, close, &Reply::Closed)?;
+    takes_behind(&rt, alloc, open, close, &Reply::Closed)?;
     let expire = Event::Expire(Moment::from_millis(10003));
-    takes(&rt, alloc, desk(alloc)?, expire, &Reply::Expired(3))?;
+    takes_anew(&rt, alloc, expire, &Reply::Expired(3))?;
     let checked = Reply::Checked(Checked::Took(Flip::WentDown));
     let check = Event::Check(server(B), false);
-    takes(&rt, alloc, desk(alloc)?, check, &checked)?;
+    takes_anew(&rt, alloc, check, &checked)?;
     let command = set_a(AdminState::Maint);
-    takes(&rt, alloc, desk(alloc)?, command, &Reply::Done)
+    takes_anew(&rt, alloc, command, &Reply::Done)
 }
 
 #[test]
 fn a_sheet(rt: HostRuntime) -> Result<(), Fail> {
     let alloc = rt.alloc();
     let owed = Reply::Sheet(Shared::new(alloc, read_sheet(alloc, SHEET)?)?);
-    takes(&rt, alloc, desk(alloc)?, Event::Snapshot, &owed)
+    takes_anew(&rt, alloc, Event::Snapshot, &owed)
 }
 
 fn install(alloc: Global) -> Result<Event, Fail> {
@@ -196,23 +227,26 @@ fn install(alloc: Global) -> Result<Event, Fail> {
 #[test]
 fn the_install_of_a_plan(rt: HostRuntime) -> Result<(), Fail> {
     let alloc = rt.alloc();
-    takes(
-        &rt,
-        alloc,
-        desk(alloc)?,
-        install(alloc)?,
-        &Reply::Installed(TWO_MOVED),
-    )
+    takes_anew(&rt, alloc, install(alloc)?, &Reply::Installed(TWO_MOVED))
 }
 
 // Where the install is refused b and c have one pin each, and get one more. Else they have two each, and a is left.
 #[test]
 fn room_behind_an_install(rt: HostRuntime) -> Result<(), Fail> {
     let alloc = rt.alloc();
-    let mut desk = desk(alloc)?;
     let event = install(alloc)?;
+    let mut desk = desk(alloc)?;
+    has_room_behind(&rt, alloc, &mut desk, event)
+}
+
+fn has_room_behind(
+    rt: &impl Abort,
+    alloc: Global,
+    desk: &mut Desk<Hasher>,
+    event: Event,
+) -> Result<(), Fail> {
     begin(alloc)?;
-    let told = desk.step(event);
+    let told = step(desk, event);
     end(alloc)?;
     let mut owed = vec![in alloc; Reply::Refused(Refusal::NoServer)]?;
     if told.is_err() {
@@ -221,7 +255,7 @@ fn room_behind_an_install(rt: HostRuntime) -> Result<(), Fail> {
         owed.insert(0, Reply::Served(server(B), ServedAs::Made))?;
     }
     for (key, owed) in ["k5", "k6", "k7"].iter().zip(&owed) {
-        let reply = desk.step(Event::Serve(request(alloc, 5, *key)?))?;
+        let reply = step(desk, Event::Serve(request(alloc, 5, *key)?))?;
         assert_eq!(rt; reply, *owed);
     }
     Ok(())
@@ -231,17 +265,25 @@ fn room_behind_an_install(rt: HostRuntime) -> Result<(), Fail> {
 fn a_plan_at_once(rt: HostRuntime) -> Result<(), Fail> {
     let alloc = rt.alloc();
     let mut desk = desk(alloc)?;
-    let before = Stand::of(alloc, &desk)?;
+    plans_at_once(&rt, alloc, &mut desk)
+}
+
+fn plans_at_once(rt: &impl Abort, alloc: Global, desk: &mut Desk<Hasher>) -> Result<(), Fail> {
+    let before = Stand::of(alloc, desk)?;
     begin(alloc)?;
-    let told = desk.plan_now();
+    let told = plan_now(desk);
     end(alloc)?;
     let score = match told {
         Ok(score) => score,
         Err(refused) => {
-            is_as_before(&rt, alloc, &desk, &before, refused)?;
-            desk.plan_now()?
+            is_as_before(rt, alloc, desk, &before, refused)?;
+            plan_now(desk)?
         }
     };
     assert_eq!(rt; score, TWO_MOVED);
     Ok(())
+}
+
+fn plan_now(desk: &mut Desk<Hasher>) -> Result<Score, Refused> {
+    desk.plan_now()
 }

@@ -175,44 +175,68 @@ fn has(
 fn pins_that_are_made(rt: HostRuntime) -> Result<(), Fail> {
     let alloc = rt.alloc();
     let mut table = table(alloc, 0)?;
+    makes_all(&rt, alloc, &mut table)
+}
+
+fn makes_all(rt: &impl Abort, alloc: Global, table: &mut Table<Hasher>) -> Result<(), Fail> {
     for number in 0..MANY {
-        let before = Stand::of(alloc, &table)?;
-        begin(alloc)?;
-        let told = insert(&mut table, number);
-        end(alloc)?;
-        if told.is_err() {
-            is_as_before(&rt, alloc, &table, &before)?;
-            insert(&mut table, number)?;
-        }
+        makes(rt, alloc, table, number)?;
     }
     let mut owed = Vec::new(alloc);
     for number in 2..MANY {
         owed.push((number, A))?;
     }
-    has(&rt, alloc, &table, &owed)
+    has(rt, alloc, table, &owed)
+}
+
+fn makes(
+    rt: &impl Abort,
+    alloc: Global,
+    table: &mut Table<Hasher>,
+    number: u32,
+) -> Result<(), Fail> {
+    let before = Stand::of(alloc, table)?;
+    begin(alloc)?;
+    let told = insert(table, number);
+    end(alloc)?;
+    if told.is_err() {
+        is_as_before(rt, alloc, table, &before)?;
+        insert(table, number)?;
+    }
+    Ok(())
 }
 
 #[test]
 fn pins_that_are_used_and_go(rt: HostRuntime) -> Result<(), Fail> {
     let alloc = rt.alloc();
     let mut table = table(alloc, 4)?;
+    uses(&rt, alloc, &mut table)?;
+    goes(&rt, alloc, &mut table)
+}
+
+/// Pin 1 is used where it is, and pin 0 elsewhere.
+fn uses(rt: &impl Abort, alloc: Global, table: &mut Table<Hasher>) -> Result<(), Fail> {
     begin(alloc)?;
-    keep(&mut table, 1);
+    keep(table, 1);
     end(alloc)?;
-    let before = Stand::of(alloc, &table)?;
+    let before = Stand::of(alloc, table)?;
     begin(alloc)?;
-    let told = move_to_b(&mut table, 0);
+    let told = move_to_b(table, 0);
     end(alloc)?;
     if told.is_err() {
-        is_as_before(&rt, alloc, &table, &before)?;
-        move_to_b(&mut table, 0)?;
+        is_as_before(rt, alloc, table, &before)?;
+        move_to_b(table, 0)?;
     }
-    has(&rt, alloc, &table, &[(2, A), (3, A), (1, A), (0, B)])?;
+    has(rt, alloc, table, &[(2, A), (3, A), (1, A), (0, B)])
+}
+
+/// Pin 2 goes, which wasn't used for longest.
+fn goes(rt: &impl Abort, alloc: Global, table: &mut Table<Hasher>) -> Result<(), Fail> {
     begin(alloc)?;
-    let popped = pop(&mut table);
+    let popped = pop(table);
     end(alloc)?;
     assert!(rt; popped == Some(name_of(2)), "another pin went");
-    has(&rt, alloc, &table, &[(3, A), (1, A), (0, B)])
+    has(rt, alloc, table, &[(3, A), (1, A), (0, B)])
 }
 
 #[test]
