@@ -5,7 +5,7 @@ import tomllib
 from collections import Counter
 from dataclasses import dataclass
 from pathlib import Path
-from typing import Any, Callable, Iterator, Mapping, Optional
+from typing import Any, Callable, Iterator, Mapping, Optional, Sequence
 
 from running.trying import Case, Step
 
@@ -336,21 +336,28 @@ def program_wrong(source: Source) -> Iterator[Case]:
 
 Reader = Callable[[Source], Iterator[Case]]
 
+OF_WORDS: Mapping[str, Reader] = {"case": program_case, "jobs": program_jobs, "printed": program_printed, "wrong": program_wrong}
+
 # The folders, and the kinds of tables that their files may have.
 READERS: Mapping[str, Mapping[str, Reader]] = {
     "check": {"case": check_case, "texts": check_texts, "lines": check_lines, "keywords": check_keywords},
     "verify": {"case": verify_case, "texts": verify_texts},
     "plan": {"case": plan_case, "judged": plan_judged, "texts": plan_texts, "beginnings": plan_beginnings},
     "replay": {"case": replay_case, "lines": replay_lines, "bad": replay_bad, "bytes": replay_bytes},
-    "program": {"case": program_case, "jobs": program_jobs, "printed": program_printed, "wrong": program_wrong},
+    "program": OF_WORDS,
+    "small": OF_WORDS,
 }
 
+# The folders for the whole program, and those for the small one.
+WHOLE = ("check", "verify", "plan", "replay", "program")
+PLANS = ("verify", "plan", "small")
 
-def cases_of(folder: Path) -> list[Case]:
-    """Returns the cases of all files below the folder, in the order of their names. Raises `BadCase`."""
+
+def cases_of(folder: Path, jobs: Sequence[str]) -> list[Case]:
+    """Returns the cases of all files in these folders below the folder, in the order of their names. Raises `BadCase`."""
     cases = []
-    for job, readers in READERS.items():
-        paths = sorted((folder / job).glob("*.toml"))
+    for job in jobs:
+        readers, paths = READERS[job], sorted((folder / job).glob("*.toml"))
         if not paths:
             raise BadCase(f"{folder / job} holds no cases")
         for path in paths:

@@ -4,10 +4,9 @@ ghost use Rattle.std.specs.Io.KnownBytes.{Appends};
 ghost use Rattle.lb_types_counted.specs.Writers.{WritesFront};
 ghost use Rattle.lb_config_sections.specs.References.{checked_in};
 ghost use Rattle.lb_cli.specs.Checking.{warning_line, report_of, is_valid};
-ghost use Rattle.lb_cli.specs.Hindered.{OnCannotWrite, OnNoAnswer};
+ghost use Rattle.lb_cli_ends.specs.Hindered.{OnCannotWrite, OnNoAnswer};
 
-use crate::JobError;
-use crate::input::whole;
+use lb_cli_ends::{JobError, whole};
 use lb_cli_faults::{config_fault_line, push_line_label};
 use lb_config_sections::{ConfigFault, Sections, Warning, read_checked};
 use lb_types::Counted;

@@ -1,7 +1,0 @@
-use Rattle.std.proofs.Common.{◌≡◌}
-use Rattle.lb_cli.specs.Tables.{places}
-use Rattle.lb_cli.proofs.tables.places.Given as goal
-
--- none, and the servers so far
-abbrev pub invariant-loop-index : goal.invariant-loop-index
-invariant-loop-index l = l.all.items ≡ places l.index

@@ -1,0 +1,2 @@
+pub mod Hindered
+pub mod Statuses

@@ -1,0 +1,39 @@
+-- What `plan` writes for the text of a sheet. Which of several best plans it is, and at which prices, is left open.
+use Rattle.std.specs.Prelude.{◌≡◌, ℕ, Bool, true, false, List, [], ◌∷◌, ◌++◌, Result, Ok, Err}
+use Rattle.pin_set.specs.declared.totals.Score.{Score}
+use Rattle.pin_set.specs.Rows.{AgreeingAreBest}
+use Rattle.cert_check_law.specs.Sheets.{sheet_room}
+use Rattle.dual_cert_plan.specs.Plans.{PlanParts}
+use Rattle.dual_cert_plan.specs.Sheets.{SheetParts}
+use Rattle.dual_cert.specs.TextFault.{TextFault}
+use Rattle.dual_cert.specs.Faults.{fault_text}
+use Rattle.dual_cert.specs.Spellings.{spelling}
+use Rattle.dual_cert.specs.SheetTexts.{sheet_of_text}
+use Rattle.cert_check.specs.Verdict.{verdict}
+use Rattle.lb_cli_plans.specs.Verify.{finding_of}
+use Rattle.lb_cli_plans.specs.declared.finding.Finding.TheVariants.{Best}
+
+-- the text is that of a plan with the sheet's version; the check accepts this plan for the sheet, each assignment that agrees with
+-- it is best at the sheet's capacities, and `verify` finds the text best, with the same score
+pub record IsPlanFor (sheet : SheetParts) (text : List ℕ) : Type 0 where
+  pub plan : PlanParts
+  pub spelled : text ≡ spelling plan
+  pub version : plan.version ≡ sheet.version
+  pub score : Score
+  pub accepted : verdict sheet plan ≡ Ok score
+  pub best : AgreeingAreBest (sheet_room sheet) plan.rows
+  pub verified : finding_of text ≡ Best score
+
+-- what is written for a sheet that was read, or for the first fault of its text
+abbrev pub AnswersReading : Result SheetParts TextFault → List ℕ → Type 0
+AnswersReading (Ok sheet) written = IsPlanFor sheet written
+AnswersReading (Err fault) written = written ≡ fault_text fault ++ 10 ∷ []
+
+-- what is written for a text
+abbrev pub Answers : List ℕ → List ℕ → Type 0
+Answers text written = AnswersReading (sheet_of_text text) written
+
+-- the text is that of a sheet
+abbrev pub was_read : Result SheetParts TextFault → Bool
+was_read (Ok sheet) = true
+was_read (Err fault) = false

@@ -1,0 +1,89 @@
+ghost use Rattle.std.specs.Prelude.{◌≡◌, ◌++◌, ◌∷◌, [], codes, OnOk, IfOk, IfSome};
+ghost use Rattle.std.specs.Io.KnownBytes.{Appends};
+ghost use Rattle.lb_types_counted.specs.Writers.{WritesFront};
+ghost use Rattle.dual_cert.specs.Faults.{fault_text};
+ghost use Rattle.dual_cert.specs.SheetTexts.{sheet_of_text};
+ghost use Rattle.lb_cli_plans.specs.Asking.{complaint_of, sheet_read};
+ghost use Rattle.lb_cli_ends.specs.Hindered.{OnCannotWrite, OnNoAnswer};
+ghost use Rattle.lb_cli_plans.specs.Verify.{finding_for, MeansBestFor, line_of};
+
+use crate::Finding;
+use dual_cert::{ReadError, Sheet, TextFault, read_sheet};
+use lb_cli_ends::{JobError, whole};
+use lb_types::Counted;
+use std::alloc::{AllocError, Global};
+use std::io::{Read, Write};
+
+/// Reads the text of a sheet to its end, for plans to be judged by. Where it is no sheet's, it writes its first fault, as
+/// `sheet 40 BadLine 3`.
+///
+/// The text is read whole: one that is larger than memory is want of memory.
+pub fn sheet_for<R: Read, W: Write>(
+    alloc: Global,
+    file: &mut R,
+    out: &mut Counted<W>,
+) -> Result<Option<Sheet>, JobError>
+    ensures read { IfOk result (λ sheet. IfSome (R.remaining file.old) (λ text.
+        sheet ≡ sheet_read (sheet_of_text text))) }
+    ensures written { OnOk result (IfSome (R.remaining file.old) (λ text.
+        Appends out.old.contents out.new.contents (complaint_of (sheet_of_text text)))) }
+
+    // Where it is hindered.
+    ensures cut { OnCannotWrite result (IfSome (R.remaining file.old) (λ text.
+        WritesFront out.old out.new (complaint_of (sheet_of_text text)))) }
+    ensures silent { OnNoAnswer result (out.new ≡ out.old) }
+{
+    let text = whole(alloc, file)?;
+    let fault = match read_sheet(alloc, &text) {
+        Ok(sheet) => return Ok(Some(sheet)),
+        Err(ReadError::Fault(fault)) => fault,
+        Err(ReadError::Memory) => return Err(JobError::OutOfMemory),
+    };
+    let line = complaint(alloc, fault)?;
+    match out.write_all(&line) {
+        Ok(()) => Ok(None),
+        Err(_) => Err(JobError::CannotWrite),
+    }
+}
+
+/// Reads the text of a plan to its end, and writes one line: `best pins N unplaced U moved M` where the plan is made for the
+/// sheet, is lawful, has the sheet's version, and its prices show that no plan is better (with ` cost C` at the end where C isn't
+/// M), and else the first fault. A version alone that isn't the sheet's is told as `version 6 differs from the sheet's 7`.
+///
+/// The text is read whole: one that is larger than memory is want of memory.
+pub fn verify_for<R: Read, W: Write>(
+    alloc: Global,
+    sheet: &Sheet,
+    file: &mut R,
+    out: &mut Counted<W>,
+) -> Result<Finding, JobError>
+    ensures finding { IfOk result (λ finding. IfSome (R.remaining file.old) (λ text.
+        finding ≡ finding_for sheet.now text)) }
+    ensures best { IfOk result (λ finding. IfSome (R.remaining file.old) (λ text.
+        MeansBestFor sheet.now text finding)) }
+    ensures written { OnOk result (IfSome (R.remaining file.old) (λ text.
+        Appends out.old.contents out.new.contents (line_of (finding_for sheet.now text)))) }
+
+    // Where it is hindered.
+    ensures cut { OnCannotWrite result (IfSome (R.remaining file.old) (λ text.
+        WritesFront out.old out.new (line_of (finding_for sheet.now text)))) }
+    ensures silent { OnNoAnswer result (out.new ≡ out.old) }
+{
+    let text = whole(alloc, file)?;
+    let finding = Finding::for_sheet(alloc, sheet, &text)?;
+    let line = finding.line(alloc)?;
+    match out.write_all(line.as_bytes()) {
+        Ok(()) => Ok(finding),
+        Err(_) => Err(JobError::CannotWrite),
+    }
+}
+
+/// The fault of a sheet's text, with its line end.
+fn complaint(alloc: Global, fault: TextFault) -> Result<Vec<u8>, AllocError>
+    ensures { IfOk result (λ line. line.items ≡ codes "sheet " ++ fault_text fault ++ 10 ∷ []) }
+{
+    let mut line = Vec::from_slice(alloc, b"sheet ")?;
+    line.extend_from_slice(fault.text(alloc)?.as_bytes())?;
+    line.push(b'\n')?;
+    Ok(line)
+}

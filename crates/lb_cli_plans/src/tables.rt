@@ -1,0 +1,206 @@
+//! A plan as tables for a reader.
+ghost use Rattle.std.specs.Prelude.{◌≡◌, ◌^◌, ◌<◌, ◌≤◌, ◌++◌, ◌∷◌, length, IfOk, OnOk};
+ghost use Rattle.std.specs.List.{flat_map};
+ghost use Rattle.lb_types.specs.declared.limits.TheConstants.{MAX_SERVERS};
+ghost use Rattle.lb_cli_plans.specs.Tables.{move_line, moves_from, pins_at, pins_between, pins_to, places, tables_text};
+ghost use Rattle.lb_cli_plans.specs.Tables.{place_columns, place_line, place_name, usage_columns};
+
+use dual_cert::{Plan, PricedServer};
+use lb_types::{Place, ServerId};
+use lb_types_pins::Row;
+use std::alloc::{AllocError, Global};
+
+/// What moves, and then the places with their pins. A walk over the rows for each two places, and memory for the text.
+#[tactic(auto, unfolding(crate::specs::Tables::tables_text))]
+pub(crate) fn tables_text(alloc: Global, plan: &Plan) -> Result<Vec<u8>, AllocError>
+    ensures { IfOk result (λ text. text.items ≡ tables_text plan.now) }
+{
+    let places = places(alloc, plan.servers())?;
+    let mut text = Vec::from_slice(alloc, b"from\tto\tpins\n")?;
+    push_moves(alloc, &mut text, plan, &places)?;
+    text.extend_from_slice(b"server\tbefore\tafter\tcapacity\tprice\n")?;
+    push_places(alloc, &mut text, plan, &places)?;
+    Ok(text)
+}
+
+/// No server, and each of the servers.
+fn places(alloc: Global, servers: &[PricedServer]) -> Result<Vec<Place>, AllocError>
+    requires { length servers.now ≤ MAX_SERVERS }
+    ensures { IfOk result (λ all. all.items ≡ places (length servers.now)) }
+{
+    let mut all = Vec::new(alloc);
+    all.push(None)?;
+    let count = servers.len() as u8;
+    for index in 0..count {
+        all.push(Some(ServerId::new(index)))?;
+    }
+    Ok(all)
+}
+
+fn push_moves(
+    alloc: Global,
+    text: &mut Vec<u8>,
+    plan: &Plan,
+    places: &[Place],
+) -> Result<(), AllocError>
+    ensures { OnOk result (text.new.items ≡ text.old.items ++ flat_map (moves_from plan.now places.now) places.now) }
+{
+    for from in places {
+        push_moves_from(alloc, text, plan, from, places)?;
+    }
+    Ok(())
+}
+
+fn push_moves_from(
+    alloc: Global,
+    text: &mut Vec<u8>,
+    plan: &Plan,
+    from: &Place,
+    places: &[Place],
+) -> Result<(), AllocError>
+    ensures { OnOk result (text.new.items ≡ text.old.items ++ flat_map (move_line plan.now from.now) places.now) }
+{
+    for to in places {
+        push_move(alloc, text, plan, *from, *to)?;
+    }
+    Ok(())
+}
+
+#[tactic(auto, unfolding(crate::specs::Tables::move_line))]
+fn push_move(
+    alloc: Global,
+    text: &mut Vec<u8>,
+    plan: &Plan,
+    from: Place,
+    to: Place,
+) -> Result<(), AllocError>
+    ensures { OnOk result (text.new.items ≡ text.old.items ++ move_line plan.now from to) }
+{
+    let pins = pins_between(plan.rows(), from, to);
+    if from == to || pins == 0 {
+        return Ok(());
+    }
+    text.extend_from_slice(place_name(plan.servers(), from))?;
+    text.push(b'\t')?;
+    text.extend_from_slice(place_name(plan.servers(), to))?;
+    text.push(b'\t')?;
+    text.extend_from_slice(pins.to_string(alloc)?.as_bytes())?;
+    text.push(b'\n')?;
+    Ok(())
+}
+
+fn push_places(
+    alloc: Global,
+    text: &mut Vec<u8>,
+    plan: &Plan,
+    places: &[Place],
+) -> Result<(), AllocError>
+    ensures { OnOk result (text.new.items ≡ text.old.items ++ flat_map (place_line plan.now) places.now) }
+{
+    for place in places {
+        push_place(alloc, text, plan, *place)?;
+    }
+    Ok(())
+}
+
+#[tactic(auto, unfolding(crate::specs::Tables::place_line))]
+fn push_place(
+    alloc: Global,
+    text: &mut Vec<u8>,
+    plan: &Plan,
+    place: Place,
+) -> Result<(), AllocError>
+    ensures { OnOk result (text.new.items ≡ text.old.items ++ place_line plan.now place) }
+{
+    let before = pins_at(plan.rows(), place);
+    let after = pins_to(plan.rows(), place);
+    text.extend_from_slice(place_name(plan.servers(), place))?;
+    text.push(b'\t')?;
+    text.extend_from_slice(before.to_string(alloc)?.as_bytes())?;
+    text.push(b'\t')?;
+    text.extend_from_slice(after.to_string(alloc)?.as_bytes())?;
+    text.push(b'\t')?;
+    push_columns(alloc, text, plan.servers(), place)?;
+    text.push(b'\n')?;
+    Ok(())
+}
+
+/// Puts the capacity and the price of the place behind the text.
+fn push_columns(
+    alloc: Global,
+    text: &mut Vec<u8>,
+    servers: &[PricedServer],
+    place: Place,
+) -> Result<(), AllocError>
+    ensures { OnOk result (text.new.items ≡ text.old.items ++ place_columns servers.now place) }
+{
+    let Some(server) = place else {
+        return text.extend_from_slice(b"-\t-");
+    };
+    match servers.get(server.index()) {
+        Some(priced) => push_usage(alloc, text, priced),
+        None => Ok(()),
+    }
+}
+
+fn push_usage(alloc: Global, text: &mut Vec<u8>, priced: &PricedServer) -> Result<(), AllocError>
+    ensures { OnOk result (text.new.items ≡ text.old.items ++ usage_columns priced.now) }
+{
+    match priced.server.capacity {
+        Some(capacity) => text.extend_from_slice(capacity.to_string(alloc)?.as_bytes())?,
+        None => text.extend_from_slice(b"off")?,
+    }
+    text.push(b'\t')?;
+    text.extend_from_slice(priced.price.to_string(alloc)?.as_bytes())
+}
+
+fn place_name<'a>(servers: &'a [PricedServer], place: Place) -> &'a [u8]
+    ensures { result.now ≡ place_name servers.now place }
+{
+    let Some(server) = place else {
+        return b"-";
+    };
+    match servers.get(server.index()) {
+        Some(priced) => priced.server.name.as_bytes(),
+        None => b"",
+    }
+}
+
+fn pins_at(rows: &[Row], place: Place) -> u64
+    requires { pins_at rows.now place < 2 ^ 64 }
+    ensures { result ≡ pins_at rows.now place }
+{
+    rows.iter()
+        .map(|row| if row.kind.place == place {
+            u64::from(row.count)
+        } else {
+            0
+        })
+        .sum()
+}
+
+fn pins_to(rows: &[Row], place: Place) -> u64
+    requires { pins_to rows.now place < 2 ^ 64 }
+    ensures { result ≡ pins_to rows.now place }
+{
+    rows.iter()
+        .map(|row| if row.new_place == place {
+            u64::from(row.count)
+        } else {
+            0
+        })
+        .sum()
+}
+
+fn pins_between(rows: &[Row], from: Place, to: Place) -> u64
+    requires { pins_between rows.now from to < 2 ^ 64 }
+    ensures { result ≡ pins_between rows.now from to }
+{
+    rows.iter()
+        .map(|row| if row.kind.place == from && row.new_place == to {
+            u64::from(row.count)
+        } else {
+            0
+        })
+        .sum()
+}

@@ -1,0 +1,40 @@
+ghost use Rattle.std.specs.Prelude.{◌≡◌, OnOk, IfOk, IfSome};
+ghost use Rattle.std.specs.Io.KnownBytes.{Appends};
+ghost use Rattle.lb_types_counted.specs.Writers.{WritesFront};
+ghost use Rattle.lb_cli_ends.specs.Hindered.{OnCannotWrite, OnNoAnswer};
+ghost use Rattle.lb_cli_plans.specs.Verify.{finding_of, MeansBest, line_of};
+
+use crate::Finding;
+use lb_cli_ends::{JobError, whole};
+use lb_types::Counted;
+use std::alloc::Global;
+use std::io::{Read, Write};
+
+/// Reads the text of a plan to its end, and writes one line: `best pins N unplaced U moved M` where the plan is lawful
+/// and its prices show that no plan is better (with ` cost C` at the end where C isn't M), and else the first fault.
+///
+/// The text is read whole: one that is larger than memory is want of memory.
+pub fn verify<R: Read, W: Write>(
+    alloc: Global,
+    file: &mut R,
+    out: &mut Counted<W>,
+) -> Result<Finding, JobError>
+    ensures finding { IfOk result (λ finding. IfSome (R.remaining file.old) (λ text.
+        finding ≡ finding_of text)) }
+    ensures best { IfOk result (λ finding. IfSome (R.remaining file.old) (λ text. MeansBest text finding)) }
+    ensures written { OnOk result (IfSome (R.remaining file.old) (λ text.
+        Appends out.old.contents out.new.contents (line_of (finding_of text)))) }
+
+    // Where it is hindered.
+    ensures cut { OnCannotWrite result (IfSome (R.remaining file.old) (λ text.
+        WritesFront out.old out.new (line_of (finding_of text)))) }
+    ensures silent { OnNoAnswer result (out.new ≡ out.old) }
+{
+    let text = whole(alloc, file)?;
+    let finding = Finding::of(alloc, &text)?;
+    let line = finding.line(alloc)?;
+    match out.write_all(line.as_bytes()) {
+        Ok(()) => Ok(finding),
+        Err(_) => Err(JobError::CannotWrite),
+    }
+}
