@@ -9,6 +9,7 @@ use Rattle.lb_types.specs.declared.limits.TheConstants.{MAX_PINS}
 use Rattle.lb_types_text.specs.Numbers.{digits_of}
 use Rattle.lb_config_arguments.specs.declared.fault.Fault.{Fault}
 use Rattle.lb_config_arguments.specs.declared.fault.Fault.TheVariants.{Missing}
+use Rattle.lb_config_arguments.specs.declared.address.TheConstants.{MAX_PORT}
 use Rattle.lb_config_arguments.specs.declared.numbers.TheConstants.{MAX_MILLIS}
 use Rattle.lb_config_arguments.specs.Addresses.{endpoint_of, host_part, listen_endpoint_in, listen_host, port_in, port_part, server_endpoint_in, server_host}
 use Rattle.lb_config_arguments.specs.Numbers.{amount_of, number_in, quantity_of, size_in, size_unit, time_in, time_unit, within}
@@ -44,7 +45,7 @@ port_ok : (word : Option (List ℕ)) → IfOk (port_in word) IsPort
 unfolding port_in
 port_ok None = tt
 port_ok (Some word) =
-    cond_ok IsPort (length word == 0) (Err Missing) (number_in 1 65535 word) (λ e. tt) (λ e. number_ok 1 65535 word)
+    cond_ok IsPort (length word == 0) (Err Missing) (number_in 1 MAX_PORT word) (λ e. tt) (λ e. number_ok 1 MAX_PORT word)
 
 endpoint_ok : (word : List ℕ) (address : Option Ipv4Addr) (port : Option (List ℕ)) → IfOk (endpoint_of word address port) (λ endpoint. IsPort endpoint.port)
 unfolding endpoint_of

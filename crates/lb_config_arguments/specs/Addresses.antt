@@ -7,6 +7,7 @@ use Rattle.std.specs.declared.net.ipv4_addr.Ipv4Addr.{Ipv4Addr}
 use Rattle.lb_types_text.specs.Numbers.{numeral_of}
 use Rattle.lb_types_text.specs.Parts.{parts}
 use Rattle.lb_config_arguments.specs.declared.address.Endpoint.{Endpoint}
+use Rattle.lb_config_arguments.specs.declared.address.TheConstants.{MAX_PORT}
 use Rattle.lb_config_arguments.specs.declared.fault.Fault.{Fault}
 use Rattle.lb_config_arguments.specs.declared.fault.Fault.TheVariants.{Missing, LeftOut}
 use Rattle.lb_config_arguments.specs.Faults.{◌>>=◌}
@@ -57,7 +58,7 @@ port_part word = if nat_lt (port_len word) (length word) then Some (drop (length
 -- a port, which has to be there
 unfoldable pub port_in : Option (List ℕ) → Result ℕ Fault
 port_in None = Err Missing
-port_in (Some word) = if length word == 0 then Err Missing else number_in 1 65535 word
+port_in (Some word) = if length word == 0 then Err Missing else number_in 1 MAX_PORT word
 
 -- the endpoint with this address and port. `word` is told where there is no address
 unfoldable pub endpoint_of : List ℕ → Option Ipv4Addr → Option (List ℕ) → Result Endpoint Fault

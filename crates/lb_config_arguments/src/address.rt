@@ -7,12 +7,15 @@ use crate::{Fault, LineError, Words, is, read_number};
 use lb_types_text::{Parts, numeral};
 use std::net::Ipv4Addr;
 
+/// The greatest port: TCP has 16 bits for it (RFC 9293, section 3.1).
+pub const MAX_PORT: u64 = 65_535;
+
 /// An IPv4 address and a port.
 #[derive(Clone, Copy, Debug, PartialEq, Eq)]
 pub struct Endpoint {
     /// The address. `0.0.0.0` stands for all addresses of the host.
     pub address: Ipv4Addr,
-    /// 1 to 65535.
+    /// 1 to `MAX_PORT`.
     pub port: u16,
 }
 
@@ -58,7 +61,7 @@ fn read_port(word: Option<&[u8]>) -> Result<u16, Fault>
     if word.is_empty() {
         return Err(Fault::Missing);
     }
-    let port = read_number(1, 65535, word)?;
+    let port = read_number(1, MAX_PORT, word)?;
     Ok(port as u16)
 }
 

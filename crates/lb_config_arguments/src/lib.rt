@@ -10,7 +10,7 @@ mod fault;
 mod numbers;
 mod words;
 
-pub use address::{Endpoint, read_ipv4, read_listen_endpoint, read_server_endpoint};
+pub use address::{Endpoint, MAX_PORT, read_ipv4, read_listen_endpoint, read_server_endpoint};
 pub use fault::{Fault, LineError};
 pub use numbers::{MAX_MILLIS, read_number, read_size, read_time};
 pub use words::{Words, is, read_name};
