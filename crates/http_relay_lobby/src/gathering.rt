@@ -1,5 +1,5 @@
-use crate::{Arrival, MAX_WAITING};
 use crate::lobby::{LISTENER, Lobby, Next, Rules};
+use crate::{Arrival, MAX_WAITING};
 use crossbeam_channel::Sender;
 use http_relay_head::HEAD_ROOM;
 use mio::unix::SourceFd;
