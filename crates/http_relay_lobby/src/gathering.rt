@@ -1,5 +1,5 @@
-use crate::Arrival;
 use crate::lobby::{LISTENER, Lobby, Next, Rules};
+use crate::{Arrival, MAX_WAITING};
 use crossbeam_channel::Sender;
 use http_relay_head::HEAD_ROOM;
 use mio::unix::SourceFd;
@@ -18,6 +18,12 @@ const TICK_MILLIS: u64 = 100;
 
 /// How many milliseconds nothing is accepted where too many files are open or too many connections wait.
 const REST_MILLIS: u64 = 10;
+
+/// How many connections keep workers busy while the lobby rests.
+const MANY_WAITING: usize = 16;
+
+/// For how many microseconds it rests for each of these. No balancer serves one in less, so no worker is out of work before.
+const REST_MICROS_EACH: u64 = 8;
 
 /// How many reports of the system are taken at once.
 const MOST_EVENTS: usize = 1024;
@@ -112,6 +118,7 @@ impl Watch {
         S: Read + Write + OpenStream + AsRawFd + Drop,
     {
         lobby.line.flush(rt);
+        rest_while_many_wait(rt, lobby.line.waiting());
         let most = self.most_wait(lobby.line.is_clear(), accepts);
         let wait = Duration::from_millis(lobby.time_left(millis(rt, self.start), most));
         if self.poll.poll(&mut self.events, Some(wait)).is_err() {
@@ -185,6 +192,15 @@ impl Watch {
 
 fn rest<R: Clock>(rt: &R) {
     thread::sleep(rt, Duration::from_millis(REST_MILLIS));
+}
+
+/// Rests where so many connections wait in the line that workers have enough to do. What comes meanwhile would have to wait behind these
+/// anyway, and a rest gathers it, so that it costs fewer calls of the system and takes the workers' processors less often.
+fn rest_while_many_wait<R: Clock>(rt: &R, waiting: usize) {
+    if waiting >= MANY_WAITING {
+        let each = waiting.min(MAX_WAITING) as u64;
+        thread::sleep(rt, Duration::from_micros(each * REST_MICROS_EACH));
+    }
 }
 
 /// The moment, in milliseconds from the start, if the clock can be read.

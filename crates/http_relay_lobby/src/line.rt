@@ -28,6 +28,11 @@ impl<S: Drop> Line<S> {
         self.kept.is_empty()
     }
 
+    /// How many connections wait in the line.
+    pub(crate) fn waiting(&self) -> usize {
+        self.to.len()
+    }
+
     /// Whether nobody takes connections any more.
     pub(crate) fn has_ended(&self) -> bool {
         self.has_ended

@@ -50,6 +50,27 @@ fn a_server_that_listens_is_dialled(rt: HostRuntime) -> Result<(), Fail> {
     Ok(())
 }
 
+// A server that takes nothing more ends a write at the limit.
+#[test]
+fn a_write_to_a_full_server_has_its_limit(rt: HostRuntime) -> Result<(), Fail> {
+    let listener = TcpListener::bind(&rt, "127.0.0.1:0")?;
+    let limits = Limits {
+        connect: None,
+        transfer: Some(50),
+    };
+    let bytes = Vec::from_elem(rt.alloc(), 7, 20_000_000)?;
+    let mut dialer = SocketDialer::new();
+    let mut near = dialer.dial(&rt, endpoint(listener.local_addr()?.port()), limits)?;
+    let (far, _) = listener.accept()?;
+    let begun = Instant::now(&rt)?;
+    let written = write_all(&mut near, &bytes);
+    let waited = begun.elapsed(&rt)?.as_millis();
+    dialer.hang_up(&rt, near);
+    assert!(rt; written == Err(WireFault::Timeout) && waited >= 49, "{waited}");
+    drop(far);
+    Ok(())
+}
+
 // A server that nobody listens for is broken at once.
 #[test]
 fn a_server_that_is_gone_is_not_dialled(rt: HostRuntime) -> Result<(), Fail> {

@@ -1,15 +1,14 @@
 ghost use Rattle.std.specs.Prelude.{◌≡◌, None};
 
+use crate::ServerStream;
 use http_relay_dial::{Dialer, Endpoint, Limits};
-use http_relay_socket::StreamLimits;
 use http_relay_wire::{SocketWire, WireFault};
 use std::io;
 use std::io::ErrorKind;
-use std::net::{Net, OpenStream, SocketAddr, SocketAddrV4};
-use std::time::Duration;
+use std::net::{Net, SocketAddr, SocketAddrV4};
 
-/// Connects to servers by sockets. A connection sends at once what it is given, and its limits are set; it is closed where it is
-/// given back.
+/// Connects to servers by sockets. A connection sends at once what it is given, and waits as long as its limits let it; it is closed where
+/// it is given back.
 #[derive(Debug, Default, Drop)]
 pub struct SocketDialer {
     failures: u64,
@@ -25,7 +24,7 @@ impl SocketDialer {
 }
 
 impl<R: Net> Dialer<R> for SocketDialer {
-    type Connection = SocketWire<R::Stream>;
+    type Connection = SocketWire<ServerStream>;
 
     ghost dials = { λ dialer. None };
 
@@ -38,8 +37,9 @@ impl<R: Net> Dialer<R> for SocketDialer {
         rt: &R,
         endpoint: Endpoint,
         limits: Limits,
-    ) -> Result<SocketWire<R::Stream>, WireFault> {
-        match connect(rt, endpoint, limits) {
+    ) -> Result<SocketWire<ServerStream>, WireFault> {
+        let address = SocketAddr::V4(SocketAddrV4::new(endpoint.address, endpoint.port));
+        match ServerStream::connect(rt, address, limits) {
             Ok(stream) => Ok(SocketWire::new(stream)),
             Err(error) => {
                 self.failures = self.failures.saturating_add(1);
@@ -48,27 +48,9 @@ impl<R: Net> Dialer<R> for SocketDialer {
         }
     }
 
-    fn hang_up(&mut self, _rt: &R, connection: SocketWire<R::Stream>) {
+    fn hang_up(&mut self, _rt: &R, connection: SocketWire<ServerStream>) {
         drop(connection);
     }
-}
-
-// A stream to the endpoint with its limits. One whose limits can't be set is no stream, since nothing would end its waits.
-fn connect<R: Net>(rt: &R, endpoint: Endpoint, limits: Limits) -> io::Result<R::Stream> {
-    let address = SocketAddr::V4(SocketAddrV4::new(endpoint.address, endpoint.port));
-    let stream = match limits.connect {
-        Some(millis) if millis > 0 => {
-            rt.connect_timeout(address, Duration::from_millis(u64::from(millis)))?
-        }
-        _ => rt.connect(address)?,
-    };
-    stream.set_nodelay(true)?;
-    let limits = StreamLimits {
-        read: limits.transfer,
-        write: limits.transfer,
-    };
-    limits.set(&stream)?;
-    Ok(stream)
 }
 
 fn fault_of(error: &io::Error) -> WireFault {

@@ -6,7 +6,9 @@
 #![tactic(auto)]
 
 mod clock;
+mod connection;
 mod dialer;
 
 pub use clock::SystemClock;
+pub use connection::ServerStream;
 pub use dialer::SocketDialer;

@@ -12,6 +12,9 @@ const MOST_MILLIS: u64 = 1000;
 /// The most bytes that are read and dropped of a connection at its end.
 const MOST_DROPPED: u64 = 65536;
 
+/// How many of them are looked at before each request.
+const LOOKS_A_REQUEST: usize = 4;
+
 /// How many connections a worker waits for at most. Where there are more the oldest is closed.
 const MOST_LEAVERS: usize = 1024;
 
@@ -41,6 +44,12 @@ impl<S: Read + Write + OpenStream + Drop> Leavers<S> {
     /// Whether all are gone.
     pub(crate) fn is_empty(&self) -> bool {
         self.streams.is_empty()
+    }
+
+    /// Looks at a few of them, the oldest first. The newest was served just now, so it isn't asked yet whether its client has left.
+    pub(crate) fn look_at_older<R: Clock>(&mut self, rt: &R, room: &mut [u8; HEAD_ROOM]) {
+        let older = self.streams.len().saturating_sub(1);
+        self.look(rt, older.min(LOOKS_A_REQUEST), room);
     }
 
     /// Ends the own direction of the connection, and waits for its client beside others. One that can't be waited for is closed.

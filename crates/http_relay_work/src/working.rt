@@ -19,9 +19,6 @@ use std::time::{Clock, Duration};
 /// How many milliseconds pass between two looks at all that were served and didn't leave yet.
 const TICK_MILLIS: u64 = 20;
 
-/// How many of these are looked at before each request.
-const LOOKS_A_REQUEST: usize = 4;
-
 /// Serves one connection after another until the line is empty and all who put connections into it are gone, and gives the ports back,
 /// one for each backend. That the line has ended is the whole notice of a stop: what stands in the line is served before.
 ///
@@ -82,7 +79,7 @@ where
     R: Clock + Wait,
     S: Read + Write + OpenStream + Drop,
 {
-    leavers.look(rt, LOOKS_A_REQUEST, room);
+    leavers.look_at_older(rt, room);
     for _ in rt.forever() {
         if leavers.is_empty() {
             return arrivals.recv(rt).ok();

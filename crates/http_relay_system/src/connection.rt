@@ -1,0 +1,124 @@
+use http_relay_dial::Limits;
+use libc::net::{POLLERR, POLLHUP, POLLIN, POLLOUT, poll};
+use libc::types::pollfd;
+use mio::net as ready;
+use std::io;
+use std::io::{ErrorKind, Read, Write};
+use std::net::{Net, SocketAddr, TcpStream};
+use std::os::fd::AsRawFd;
+
+/// How often a wait that a signal cut off begins again, and a call that was told that it needn't wait.
+const MOST_TRIES: u32 = 64;
+
+/// A connection to a server. Its socket doesn't block: calls wait by `poll`, which takes the limit as an argument, so that none has to be
+/// set. A connection costs three calls of the system, and an answer one besides its reads.
+#[derive(Debug, Drop)]
+pub struct ServerStream {
+    stream: TcpStream,
+    /// For how many milliseconds each call may wait. Without a number, and at 0, there is no limit.
+    limit: Option<u32>,
+    has_written: bool,
+    sends_at_once: bool,
+    /// Whether the server has to answer before there is something to read.
+    is_asked: bool,
+}
+
+impl ServerStream {
+    /// A connection to the server at this address under these limits. The error is the system's, or `TimedOut`.
+    pub fn connect<R: Net>(rt: &R, address: SocketAddr, limits: Limits) -> io::Result<Self> {
+        let stream = TcpStream::from(ready::TcpStream::connect(rt, address)?);
+        if wait_for(&stream, POLLOUT, limits.connect)? {
+            let error = stream.take_error()?;
+            return Err(error.unwrap_or(ErrorKind::NotConnected.into()));
+        }
+        Ok(ServerStream {
+            stream,
+            limit: limits.transfer,
+            has_written: false,
+            sends_at_once: false,
+            is_asked: false,
+        })
+    }
+
+    /// Has each further write send at once what it is given. A first one does so anyway: nothing that it would be kept for is under way.
+    fn send_at_once(&mut self) -> io::Result<()> {
+        if self.has_written && !self.sends_at_once {
+            self.stream.set_nodelay(true)?;
+            self.sends_at_once = true;
+        }
+        self.has_written = true;
+        Ok(())
+    }
+}
+
+impl Read for ServerStream {
+    fn read(&mut self, buffer: &mut [u8]) -> io::Result<usize> {
+        if self.is_asked {
+            wait_for(&self.stream, POLLIN, self.limit)?;
+            self.is_asked = false;
+        }
+        for _ in 0..MOST_TRIES {
+            let answer = self.stream.read(buffer);
+            if !had_to_wait(&answer) {
+                return answer;
+            }
+            wait_for(&self.stream, POLLIN, self.limit)?;
+        }
+        Err(ErrorKind::Other.into())
+    }
+}
+
+impl Write for ServerStream {
+    fn write(&mut self, bytes: &[u8]) -> io::Result<usize> {
+        self.send_at_once()?;
+        self.is_asked = true;
+        for _ in 0..MOST_TRIES {
+            let answer = self.stream.write(bytes);
+            if !had_to_wait(&answer) {
+                return answer;
+            }
+            wait_for(&self.stream, POLLOUT, self.limit)?;
+        }
+        Err(ErrorKind::Other.into())
+    }
+
+    fn flush(&mut self) -> io::Result<()> {
+        Ok(())
+    }
+}
+
+// Whether the call ended because it would have had to wait.
+fn had_to_wait<T>(answer: &io::Result<T>) -> bool {
+    match answer {
+        Err(error) => error.kind() == ErrorKind::WouldBlock,
+        Ok(_) => false,
+    }
+}
+
+// Waits until the system reports one of these events of the socket, or that it has failed, and tells which. The error is `TimedOut` where
+// the limit ran out before.
+fn wait_for(stream: &TcpStream, events: i16, limit: Option<u32>) -> io::Result<bool> {
+    let mut asked = [pollfd {
+        fd: stream.as_raw_fd(),
+        events,
+        revents: 0,
+    }];
+    for _ in 0..MOST_TRIES {
+        let reported = poll(&mut asked, timeout_of(limit));
+        if reported > 0 {
+            return Ok(asked[0].revents & (POLLERR | POLLHUP) != 0);
+        }
+        if reported == 0 {
+            return Err(ErrorKind::TimedOut.into());
+        }
+    }
+    Err(ErrorKind::Other.into())
+}
+
+// The limit as `poll` takes it, to which a negative one is none.
+fn timeout_of(limit: Option<u32>) -> i32 {
+    match limit {
+        Some(millis) if millis > 0 => i32::try_from(millis).unwrap_or(i32::MAX),
+        _ => -1,
+    }
+}
