@@ -2,7 +2,7 @@
 //!
 //! Promised: a `SocketDialer` is a `Dialer` whose connections are wires over sockets, and a `SystemClock` a `Clock`; both count and
 //! record what these traits' contracts say, and keep no records. What a socket does and what time it is no clause says. Start at
-//! `SocketDialer`.
+//! `SocketDialer`, and for how a connection waits at `ServerStream`.
 #![tactic(auto)]
 
 mod clock;

@@ -10,24 +10,26 @@ use std::net::{TcpListener, TcpStream};
 use std::process::ExitCode;
 
 fn main(rt: HostRuntime) -> ExitCode {
-    match perform_words(&rt) {
-        Ok(status) | Err(status) => ExitCode::from(status),
-    }
-}
-
-/// Does the job that the words ask for, and gives the status to exit with, also where they ask for none.
-fn perform_words(rt: &HostRuntime) -> Result<u8, u8> {
-    let words = command_line(rt)?;
-    let texts = texts_of(rt, &words)?;
-    let job = asked_job(rt, &texts)?;
+    let words = match command_line(&rt) {
+        Ok(words) => words,
+        Err(status) => return ExitCode::from(status),
+    };
+    let texts = match texts_of(&rt, &words) {
+        Ok(texts) => texts,
+        Err(status) => return ExitCode::from(status),
+    };
+    let job = match asked_job(&rt, &texts) {
+        Ok(job) => job,
+        Err(status) => return ExitCode::from(status),
+    };
     // The prover wants the types of sockets named where threads get them.
     let _sockets: PhantomData<(TcpListener, TcpStream)> = PhantomData;
     let (mut out, mut err) = (rt.stdout(), rt.stderr());
-    match perform(rt.alloc(), rt, job, &mut out, &mut err) {
-        Performed::Ended(status) => Ok(status),
+    match perform(rt.alloc(), &rt, job, &mut out, &mut err) {
+        Performed::Ended(status) => ExitCode::from(status),
         Performed::Run { file, text } => {
-            let done = run_text(rt, rt.alloc(), &text, &mut out, &mut err);
-            Ok(end(done, file, &mut err))
+            let done = run_text(&rt, rt.alloc(), &text, &mut out, &mut err);
+            ExitCode::from(end(done, file, &mut err))
         }
     }
 }
