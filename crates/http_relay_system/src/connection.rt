@@ -1,25 +1,22 @@
 use http_relay_dial::Limits;
-use http_relay_socket::StreamLimits;
 use libc::net::{POLLERR, POLLHUP, POLLIN, POLLOUT, poll};
 use libc::types::pollfd;
 use mio::net as ready;
 use std::io;
 use std::io::{ErrorKind, Read, Write};
-use std::net::{Net, OpenStream, SocketAddr, TcpStream};
+use std::net::{Net, SocketAddr, TcpStream};
 use std::os::fd::AsRawFd;
 
-/// How often a wait that a signal cut off begins again.
+/// How often a wait that a signal cut off begins again, and a call that was told that it needn't wait.
 const MOST_TRIES: u32 = 64;
 
-/// A connection to a server. Its socket doesn't block at first: it waits for the end of the dial, and for the answer to what was written,
-/// by `poll`, which takes the limit as an argument, so that none has to be set. The first other call that has to wait, as in a long body or
-/// response, sets limits and has the socket block, and it and those behind it wait so.
+/// A connection to a server. Its socket doesn't block: calls wait by `poll`, which takes the limit as an argument, so that none has to be
+/// set. A connection costs three calls of the system, and an answer one besides its reads.
 #[derive(Debug, Drop)]
 pub struct ServerStream {
     stream: TcpStream,
     /// For how many milliseconds each call may wait. Without a number, and at 0, there is no limit.
     limit: Option<u32>,
-    blocks: bool,
     has_written: bool,
     sends_at_once: bool,
     /// Whether the server has to answer before there is something to read.
@@ -37,7 +34,6 @@ impl ServerStream {
         Ok(ServerStream {
             stream,
             limit: limits.transfer,
-            blocks: false,
             has_written: false,
             sends_at_once: false,
             is_asked: false,
@@ -53,40 +49,22 @@ impl ServerStream {
         self.has_written = true;
         Ok(())
     }
-
-    /// Waits for the answer to what was written, if there may be none yet.
-    fn wait_for_answer(&mut self) -> io::Result<()> {
-        if self.is_asked && !self.blocks {
-            wait_for(&self.stream, POLLIN, self.limit)?;
-        }
-        self.is_asked = false;
-        Ok(())
-    }
-
-    /// Lets calls wait from here on, where this was the first that had to. Says whether it was.
-    fn begin_to_wait<T>(&mut self, answer: &io::Result<T>) -> io::Result<bool> {
-        if self.blocks || !had_to_wait(answer) {
-            return Ok(false);
-        }
-        let limits = StreamLimits {
-            read: self.limit,
-            write: self.limit,
-        };
-        limits.set(&self.stream)?;
-        self.stream.set_nonblocking(false)?;
-        self.blocks = true;
-        Ok(true)
-    }
 }
 
 impl Read for ServerStream {
     fn read(&mut self, buffer: &mut [u8]) -> io::Result<usize> {
-        self.wait_for_answer()?;
-        let answer = self.stream.read(buffer);
-        if self.begin_to_wait(&answer)? {
-            return self.stream.read(buffer);
+        if self.is_asked {
+            wait_for(&self.stream, POLLIN, self.limit)?;
+            self.is_asked = false;
         }
-        answer
+        for _ in 0..MOST_TRIES {
+            let answer = self.stream.read(buffer);
+            if !had_to_wait(&answer) {
+                return answer;
+            }
+            wait_for(&self.stream, POLLIN, self.limit)?;
+        }
+        Err(ErrorKind::Other.into())
     }
 }
 
@@ -94,11 +72,14 @@ impl Write for ServerStream {
     fn write(&mut self, bytes: &[u8]) -> io::Result<usize> {
         self.send_at_once()?;
         self.is_asked = true;
-        let answer = self.stream.write(bytes);
-        if self.begin_to_wait(&answer)? {
-            return self.stream.write(bytes);
+        for _ in 0..MOST_TRIES {
+            let answer = self.stream.write(bytes);
+            if !had_to_wait(&answer) {
+                return answer;
+            }
+            wait_for(&self.stream, POLLOUT, self.limit)?;
         }
-        answer
+        Err(ErrorKind::Other.into())
     }
 
     fn flush(&mut self) -> io::Result<()> {
