@@ -66,7 +66,10 @@ fn a_write_to_a_full_server_has_its_limit(rt: HostRuntime) -> Result<(), Fail> {
     let written = write_all(&mut near, &bytes);
     let waited = begun.elapsed(&rt)?.as_millis();
     dialer.hang_up(&rt, near);
-    assert!(rt; written == Err(WireFault::Timeout) && waited >= 49, "{waited}");
+    assert!(rt;
+        written == Err(WireFault::Timeout) && waited >= 49,
+        "{waited}"
+    );
     drop(far);
     Ok(())
 }
