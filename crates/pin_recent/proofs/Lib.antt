@@ -10,3 +10,4 @@ pub mod Taken
 pub mod Push
 pub mod Changes
 pub mod Permuted
+pub mod Copies

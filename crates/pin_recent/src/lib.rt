@@ -9,6 +9,7 @@
 #![tactic(auto)]
 
 mod change;
+mod copy;
 mod iter;
 mod log;
 mod recent;
@@ -16,5 +17,6 @@ mod stamped;
 mod store;
 
 pub use change::Change;
+pub use copy::RecentCopy;
 pub use iter::Iter;
 pub use recent::Recent;

@@ -1,11 +1,9 @@
 //! The order of last use, as a log of places with holes.
-ghost use Rattle.std.specs.Prelude.{◌≡◌, ◌+◌, ◌-◌, ◌^◌, ◌<◌, ◌≤◌, ◌↔◌, [], ◌∷◌, ◌++◌, IsTrue, OnOk, length, slice_get, slice_set};
+ghost use Rattle.std.specs.Prelude.{◌≡◌, ◌+◌, ◌-◌, ◌^◌, ◌<◌, ◌≤◌, ◌↔◌, [], ◌∷◌, ◌++◌, IsTrue, IfOk, OnOk, length, slice_get, slice_set};
 ghost use Rattle.std.specs.VecDeque.{deque_capacity};
-ghost use Rattle.std.specs.VecDeque.Iter.{deque_iter_rest};
 
 use std::alloc::{AllocError, Global};
 use std::collections::VecDeque;
-use std::collections::vec_deque::Iter;
 
 /// A place that no entry has: what stands in the log where a place was taken out.
 pub(crate) const HOLE: u32 = 0xFFFF_FFFF;
@@ -65,11 +63,15 @@ impl Log {
         self.places.front().copied()
     }
 
-    /// The places and holes, oldest first.
-    pub(crate) fn iter(&self) -> Iter<'_, u32>
-        ensures { deque_iter_rest result ≡ self.now.places.items }
+    /// A copy of the places and holes, oldest first.
+    pub(crate) fn copy(&self, alloc: Global) -> Result<Vec<u32>, AllocError>
+        ensures { IfOk result (λ places. places.items ≡ self.now.places.items) }
     {
-        self.places.iter()
+        let (first, rest) = self.places.as_slices();
+        let mut places = Vec::with_capacity(alloc, self.places.len())?;
+        places.extend_from_slice(first)?;
+        places.extend_from_slice(rest)?;
+        Ok(places)
     }
 
     /// Makes room for `additional` more.

@@ -1,12 +1,12 @@
-ghost use Rattle.std.specs.Prelude.{◌≡◌, ◌+◌, ◌^◌, ◌<◌, ◌≤◌, None, List, [], ◌∷◌, ◌++◌, if◌then◌else◌, is_some, IfErr, IsPermutation, OnErr, OnOk, length, drop, slice_get};
+ghost use Rattle.std.specs.Prelude.{◌≡◌, ◌+◌, ◌^◌, ◌<◌, ◌≤◌, None, List, [], ◌∷◌, ◌++◌, if◌then◌else◌, is_some, IfOk, IfErr, IsPermutation, OnErr, OnOk, length, drop, slice_get};
 ghost use Rattle.std.specs.Map.{lookup};
 ghost use Rattle.std.specs.Option.{option_copied, option_map};
 ghost use Rattle.pin_recent.specs.Recent.{IsChanged, MayChange, in_order, touched};
 
 use crate::change::Change;
-use crate::iter::Iter;
+use crate::copy::RecentCopy;
 use crate::store::Store;
-use std::alloc::{AllocFailed, Global};
+use std::alloc::{AllocError, AllocFailed, Global};
 use std::hash::{BuildHasher, Hash};
 use std::marker::Model;
 
@@ -75,16 +75,6 @@ impl<K: Eq + Hash, V, S: BuildHasher> Recent<K, V, S> {
         self.store.oldest()
     }
 
-    /// The pairs in order of last use, from the one that wasn't used for longest. It is no use of any pair.
-    ///
-    /// A walk through all of them is one pass over the order and the holes that touches left in it. It hashes nothing, and takes no
-    /// memory.
-    pub fn iter(&self) -> Iter<'_, K, V>
-        ensures { result ≡ self.now.pairs }
-    {
-        self.store.iter()
-    }
-
     /// Takes out the pair that wasn't used for longest, without memory.
     pub fn pop_oldest(&mut self) -> Option<(K, V)>
         requires { self.old.uses ≤ 2 ^ 63 }
@@ -106,6 +96,20 @@ impl<K: Eq + Hash, V, S: BuildHasher> Recent<K, V, S> {
         ensures uses { self.new.uses ≡ self.old.uses }
     {
         self.store.change_values(change);
+    }
+}
+
+impl<K: Eq + Hash + Clone + Drop, V: Copy, S: BuildHasher> Recent<K, V, S> {
+    /// A copy of the pairs, for a walk in order of last use. It is no use of any pair. It has exactly the map's pairs where the clone of
+    /// a key equals the key.
+    ///
+    /// It costs one pass over the pairs, in an order of the map's own, that clones each key, and a copy of the order of last use; only a
+    /// walk through the copy brings the two together. It hashes nothing. The room for all pairs, and 4 bytes for each pair and each hole
+    /// of the order, is taken before the pass. Want of memory, for that or for a key, is its one error.
+    pub fn copy(&self, alloc: Global) -> Result<RecentCopy<K, V>, AllocError>
+        ensures { IfOk result (λ copy. ((key clone : K) → K.is_clone key clone → clone ≡ key) → copy ≡ self.now.pairs) }
+    {
+        self.store.copy(alloc)
     }
 }
 

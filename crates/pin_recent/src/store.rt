@@ -1,5 +1,5 @@
 //! Pairs at places of a map, with the log of their last uses.
-ghost use Rattle.std.specs.Prelude.{◌≡◌, ℕ, ◌+◌, ◌-◌, ◌*◌, ◌^◌, ◌<◌, ◌≤◌, Bool, [], ◌∷◌, ◌++◌, Some, OnOk, OnErr, IfErr, IfSome, IfNone, length, slice_get, option_to_list};
+ghost use Rattle.std.specs.Prelude.{◌≡◌, ℕ, ◌+◌, ◌-◌, ◌*◌, ◌^◌, ◌<◌, ◌≤◌, Bool, [], ◌∷◌, ◌++◌, Some, OnOk, OnErr, IfOk, IfErr, IfSome, IfNone, length, slice_get, option_to_list};
 ghost use Rattle.std.specs.Map.{lookup};
 ghost use Rattle.std.specs.Option.{option_copied, option_map};
 ghost use Rattle.std.specs.VecDeque.{deque_capacity};
@@ -8,7 +8,7 @@ ghost use Rattle.pin_recent.specs.Recent.{MayChange, touched};
 ghost use Rattle.pin_recent.specs.Sound.{Ordered, Trim, Tied, OnlyAt, Nowhere, IsPassed, bare, numbers, stored, next_number, spent, settled, turned};
 
 use crate::change::Change;
-use crate::iter::Iter;
+use crate::copy::RecentCopy;
 use crate::log::{HOLE, Log};
 use crate::stamped::Stamped;
 use indexmap::IndexMap;
@@ -205,16 +205,6 @@ impl<K: Eq + Hash, V, S: BuildHasher> Store<K, V, S> {
         Some((key, &stamped.value))
     }
 
-    /// The pairs in the log's order.
-    pub(crate) fn iter(&self) -> Iter<'_, K, V>
-        ensures { result ≡ stored self.now }
-    {
-        Iter {
-            pairs: self.map.as_slice(),
-            places: self.log.iter(),
-        }
-    }
-
     /// Changes each value, in the map's order.
     pub(crate) fn change_values<C: Change<K, V>>(&mut self, change: &mut C)
         requires { MayChange C.accepts C.changes change.old (bare self.old.map.entries) }
@@ -254,6 +244,21 @@ impl<K: Eq + Hash, V, S: BuildHasher> Store<K, V, S> {
         self.make_room();
         self.map.reserve(1)?;
         Ok(())
+    }
+}
+
+impl<K: Eq + Hash + Clone + Drop, V: Copy, S: BuildHasher> Store<K, V, S> {
+    /// A copy of the pairs, in the map's order, and of the log.
+    pub(crate) fn copy(&self, alloc: Global) -> Result<RecentCopy<K, V>, AllocError>
+        requires { Ordered self.now }
+        ensures { IfOk result (λ copy. ((key clone : K) → K.is_clone key clone → clone ≡ key) → copy ≡ stored self.now) }
+    {
+        let places = self.log.copy(alloc)?;
+        let mut pairs = Vec::with_capacity(alloc, self.map.len())?;
+        for (key, stamped) in &self.map {
+            pairs.push((key.clone()?, stamped.value))?;
+        }
+        Ok(RecentCopy { pairs, places })
     }
 }
 

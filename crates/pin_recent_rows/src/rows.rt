@@ -58,19 +58,19 @@ impl<S: BuildHasher + Drop> Both<S> {
         self.table.len() == self.plain.len()
             && self.table.find(&key).copied() == value
             && oldest == self.plain.first().copied()
-            && self.walk_agrees()
     }
 
-    /// Whether a walk through the map gives the list's pairs in their order.
-    fn walk_agrees(&self) -> bool {
+    /// Whether a copy of the map is the list, in its order.
+    fn copy_agrees(&self, alloc: Global) -> Result<bool, AllocError> {
+        let copy = self.table.copy(alloc)?;
         let mut left = self.plain.len();
-        for ((key, value), pair) in self.table.iter().zip(self.plain.iter()) {
+        for ((key, value), pair) in copy.iter().zip(self.plain.iter()) {
             if (*key, *value) != *pair {
-                return false;
+                return Ok(false);
             }
             left = left.saturating_sub(1);
         }
-        left == 0
+        Ok(left == 0 && copy.len() == self.plain.len())
     }
 }
 
@@ -96,7 +96,7 @@ fn first_difference<S: BuildHasher + Drop>(
         } else {
             both.used(key, state)?
         };
-        if !same || !both.agree(key) {
+        if !same || !both.agree(key) || !both.copy_agrees(alloc)? {
             return Ok(Some(call));
         }
     }
