@@ -3,7 +3,7 @@ ghost use Rattle.lb_desk_model.specs.Worn.{open_at};
 
 use crate::backend_core::Core;
 use lb_types::ServerId;
-use pin_set::TablePin;
+use pin_table::TableCopy;
 use std::alloc::{AllocError, Global};
 use std::hash::BuildHasher;
 
@@ -22,14 +22,14 @@ impl<S: BuildHasher> Core<S> {
         self.parts.table.uses()
     }
 
-    /// Copies of the pins, in order of last use, the one that wasn't used for longest first; none where the backend has no table.
+    /// A copy of the pins, which gives them out in order of last use; of none where the backend has no table.
     ///
-    /// It costs one walk over the pins and a copy of each key. It takes memory for the list and for the keys that are text, of
-    /// which want is its one error.
-    pub fn table_rows(&self, alloc: Global) -> Result<Vec<TablePin>, AllocError>
-        ensures exact { IfOk result (λ rows. rows.items ≡ self.now.shown.pins) }
+    /// It costs one pass through the pins as they stand in memory, with a copy of each key. It takes memory for the pins and for the
+    /// keys that are text, of which want is its one error.
+    pub fn copy_table(&self, alloc: Global) -> Result<TableCopy, AllocError>
+        ensures exact { IfOk result (λ copy. copy ≡ self.now.shown.pins) }
     {
-        self.parts.table.rows(alloc)
+        self.parts.table.copy(alloc)
     }
 
     /// How many connections are open at the server; 0 where there is no such server.

@@ -175,11 +175,16 @@ impl<S: BuildHasher, B: Naming> SharedDesk<S, B> {
 
     /// Copies of the pins at one moment, in order of last use, the one that wasn't used for longest first. It is no event.
     ///
-    /// The others wait while each key is copied. Want of memory is its one error.
+    /// The others wait for one pass through the pins as they stand in memory, with a copy of each key. They don't wait while the pins
+    /// are put into order of last use, which takes longer and copies each key once more. For a moment there is memory for two lists
+    /// of the pins. Want of memory is its one error.
     pub fn rows<R: Wait>(&self, rt: &R, alloc: Global) -> Result<Vec<TablePin>, AllocError>
         ensures { IfOk result (λ rows. HasPins (B.opening self.now) rows.items) }
     {
-        self.hold(rt)?.rows(alloc)
+        let held = self.hold(rt)?;
+        let copy = held.copy_table(alloc)?;
+        drop(held);
+        copy.rows(alloc)
     }
 
     /// A copy of the journal at one moment. It is no event.

@@ -15,7 +15,7 @@ use lb_desk_model::{Entry, Event};
 use lb_desk_ports::Refused;
 use lb_desk_step::{Desk, Taken, TakenPlan};
 use lb_desk_tie::{Keeper, Opened, Pass};
-use pin_set::TablePin;
+use pin_table::TableCopy;
 use std::alloc::{AllocError, Global};
 use std::hash::BuildHasher;
 use std::marker::Model;
@@ -135,13 +135,12 @@ impl<S: BuildHasher, B: Naming> TiedDesk<S, B> {
         Ok(taken)
     }
 
-    /// Copies of the pins, in order of last use.
-    pub(crate) fn rows(&self, alloc: Global) -> Result<Vec<TablePin>, AllocError>
-        ensures exact { IfOk result (λ rows. rows.items ≡ self.now.desk.shown.pins) }
-        ensures reached { IfOk result
-            (λ rows. HasPins (B.opening self.now.keeper.number) rows.items) }
+    /// A copy of the pins, which gives them out in order of last use.
+    pub(crate) fn copy_table(&self, alloc: Global) -> Result<TableCopy, AllocError>
+        ensures exact { IfOk result (λ copy. copy ≡ self.now.desk.shown.pins) }
+        ensures reached { IfOk result (λ copy. HasPins (B.opening self.now.keeper.number) copy) }
     {
-        self.desk.table_rows(alloc)
+        self.desk.copy_table(alloc)
     }
 
     /// A copy of the journal.

@@ -22,7 +22,8 @@ pub trait Steer<R>: Mover<R> {
     /// Copies of the table's pins as they stand now, in order of last use, the one that wasn't used for longest first; none where
     /// the backend has no table. It is no event, and no use of any pin.
     ///
-    /// It costs one walk over the pins while no event is taken, and a copy of each key. Refused for want of memory alone.
+    /// It costs one pass through the pins while no event is taken, one walk over them behind that, and a copy of each key in either.
+    /// Refused for want of memory alone.
     fn rows(&self, rt: &R, alloc: Global) -> Result<Vec<TablePin>, AllocError>;
 
     /// A copy of what the backend's journal keeps now. It is no event.

@@ -14,6 +14,7 @@ use lb_desk_model::{Backend, Entry, Event, Reply};
 use lb_desk_ports::Refused;
 use lb_desk_tail::Tail;
 use pin_set::{Score, TablePin};
+use pin_table::TableCopy;
 use std::alloc::{AllocError, Global};
 use std::hash::BuildHasher;
 use std::marker::Model;
@@ -196,15 +197,26 @@ impl<S: BuildHasher> Desk<S> {
         self.connections
     }
 
+    /// A copy of the pins, which gives them out in order of last use; of none where the backend has no table. It is no event, and no
+    /// use of any pin.
+    ///
+    /// It costs one pass through the pins as they stand in memory, with a copy of each key, and hashes nothing; to put them into
+    /// order is left to the copy. It takes memory for the pins and for the keys that are text, of which want is its one error.
+    pub fn copy_table(&self, alloc: Global) -> Result<TableCopy, AllocError>
+        ensures exact { IfOk result (λ copy. copy ≡ self.now.shown.pins) }
+    {
+        self.core.copy_table(alloc)
+    }
+
     /// Copies of the pins, in order of last use, the one that wasn't used for longest first; none where the backend has no table.
     /// It is no event, and no use of any pin.
     ///
-    /// It costs one walk over the pins and a copy of each key, and hashes nothing. It takes memory for the list and for the keys
-    /// that are text, of which want is its one error.
+    /// They are the rows of `copy_table`, which is what to hold a lock for. Each key is copied twice, and nothing is hashed. It takes
+    /// memory for two lists of the pins and for the keys that are text, of which want is its one error.
     pub fn table_rows(&self, alloc: Global) -> Result<Vec<TablePin>, AllocError>
         ensures exact { IfOk result (λ rows. rows.items ≡ self.now.shown.pins) }
     {
-        self.core.table_rows(alloc)
+        self.copy_table(alloc)?.rows(alloc)
     }
 
     /// The journal: the newest entries, and how many there were.

@@ -12,12 +12,12 @@ ghost use Rattle.pin_table.specs.Placed.{AreMovesOf, ArePlaced};
 ghost use Rattle.pin_moves.specs.Moves.{AreRisingCounts, move_before};
 
 use crate::placing::counts_after;
-use crate::{Held, TableKind};
+use crate::{Held, TableCopy, TableKind};
 use lb_types::{Moment, ServerId};
 use pin_counts::Counts;
 use pin_moves::{Move, Moving};
 use pin_recent::Recent;
-use pin_set::{Pin, PinCount, PinId, TablePin};
+use pin_set::{PinCount, PinId};
 use std::alloc::{AllocError, Global};
 use std::collections::btree_map::Iter;
 use std::hash::BuildHasher;
@@ -191,16 +191,12 @@ impl<S: BuildHasher> CountedPins<S> {
         self.counts.clear();
     }
 
-    /// Copies of the pins, in order of last use.
-    pub(crate) fn rows(&self, alloc: Global) -> Result<Vec<TablePin>, AllocError>
-        ensures { IfOk result (λ rows. rows.items ≡ self.now.pins) }
+    /// A copy of the pins.
+    pub(crate) fn copy(&self, alloc: Global) -> Result<TableCopy, AllocError>
+        ensures { IfOk result (λ copy. copy ≡ self.now.pins) }
     {
-        let mut rows = Vec::with_capacity(alloc, self.pins.len())?;
-        for (name, held) in self.pins.iter() {
-            let row = row_of(name, *held)?;
-            rows.push(row)?;
-        }
-        Ok(rows)
+        let pins = self.pins.copy(alloc)?;
+        Ok(TableCopy::of(pins))
     }
 
     /// How many pins there are of each kind, for the kinds that there are, in rising order.
@@ -228,19 +224,4 @@ impl<S: BuildHasher> CountedPins<S> {
         }
         Ok(counts)
     }
-}
-
-/// A copy of the pin of this name.
-fn row_of(name: &PinId, held: Held) -> Result<TablePin, AllocError>
-    ensures { IfOk result (λ row. row ≡ held_pin name.now held) }
-{
-    let pin = Pin {
-        id: name.clone()?,
-        place: held.place,
-        cost: held.cost,
-    };
-    Ok(TablePin {
-        pin,
-        last_use: held.last_use,
-    })
 }

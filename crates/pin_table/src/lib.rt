@@ -11,9 +11,11 @@ mod held;
 mod insert_fault;
 mod placing;
 mod table;
+mod table_copy;
 mod table_kind;
 
 pub use held::Held;
 pub use insert_fault::{InsertFault, NotInserted};
 pub use table::Table;
+pub use table_copy::TableCopy;
 pub use table_kind::TableKind;

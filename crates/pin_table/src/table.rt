@@ -11,10 +11,10 @@ ghost use Rattle.pin_moves.specs.Moves.{AreRisingCounts, move_before};
 ghost use Rattle.pin_table.specs.Tables.{IsTable, IsRefusal, after_use, is_closed, is_full, staying, table_of_parts, with_pins};
 
 use crate::counted_pins::CountedPins;
-use crate::{Held, InsertFault, NotInserted, TableKind};
+use crate::{Held, InsertFault, NotInserted, TableCopy, TableKind};
 use lb_types::{Moment, ServerId, TableSettings};
 use pin_moves::Move;
-use pin_set::{PinCount, PinId, TablePin};
+use pin_set::{PinCount, PinId};
 use std::alloc::{AllocError, Global};
 use std::collections::btree_map::Iter;
 use std::hash::BuildHasher;
@@ -218,14 +218,15 @@ impl<S: BuildHasher> Table<S> {
         self.pins.clear();
     }
 
-    /// Copies of the pins, in order of last use, the one that wasn't used for longest first. It is no use of any pin.
+    /// A copy of the pins, which gives them out in order of last use. It is no use of any pin.
     ///
-    /// It costs one walk over the pins and a copy of each key, and hashes nothing. It takes memory for the list and for the keys
-    /// that are text, of which want is its one error.
-    pub fn rows(&self, alloc: Global) -> Result<Vec<TablePin>, AllocError>
-        ensures exact { IfOk result (λ rows. rows.items ≡ self.now.pins) }
+    /// It costs one pass through the pins as they stand in memory, with a copy of each key, and hashes nothing; to put them into
+    /// order is left to the copy. It takes memory for the pins, before the pass, and for the keys that are text, of which want is
+    /// its one error.
+    pub fn copy(&self, alloc: Global) -> Result<TableCopy, AllocError>
+        ensures exact { IfOk result (λ copy. copy ≡ self.now.pins) }
     {
-        self.pins.rows(alloc)
+        self.pins.copy(alloc)
     }
 
     /// How many pins there are of each kind, for the kinds that there are, in rising order. The counts are kept as pins change,

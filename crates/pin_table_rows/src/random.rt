@@ -117,7 +117,7 @@ impl<S: BuildHasher + Drop> Both<S> {
 
     /// Whether the table's rows are the list's pins, in their order.
     fn rows_agree(&self, alloc: Global) -> Result<bool, AllocError> {
-        let rows = self.table.rows(alloc)?;
+        let rows = self.table.copy(alloc)?.rows(alloc)?;
         if rows.len() != self.plain.len() {
             return Ok(false);
         }

@@ -42,7 +42,7 @@ struct Stand {
 impl Stand {
     fn of(alloc: Global, table: &Table<Hasher>) -> Result<Stand, AllocError> {
         Ok(Stand {
-            pins: table.rows(alloc)?,
+            pins: table.copy(alloc)?.rows(alloc)?,
             counts: table.pin_counts(alloc)?,
             uses: table.uses(),
         })

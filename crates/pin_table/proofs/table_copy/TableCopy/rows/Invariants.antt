@@ -1,7 +1,7 @@
 use Rattle.std.proofs.Common.{◌≡◌, ◌++◌}
 use Rattle.pin_table.specs.Counted.{listed}
-use Rattle.pin_table.proofs.counted_pins.CountedPins.rows.Given as goal
+use Rattle.pin_table.proofs.table_copy.TableCopy.rows.Given as goal
 
 -- with what is still to come all pins are listed
 abbrev pub invariant-loop-name : goal.invariant-loop-name
-invariant-loop-name g l = l.rows.items ++ listed l.name-iterator ≡ listed l.initial.name-iterator
+invariant-loop-name l = l.rows.items ++ listed l.name-iterator ≡ listed l.initial.name-iterator
