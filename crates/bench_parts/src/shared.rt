@@ -15,6 +15,7 @@ use lb_desk_seat::Seat;
 use lb_desk_shared::{Naming, SharedDesk};
 use lb_desk_step::Desk;
 use lb_desk_tie::Opened;
+use lb_types::ServerId;
 use std::alloc::{AllocError, Global};
 use std::hash::RandomState;
 use std::marker::Brand;
@@ -64,6 +65,24 @@ struct FourTimes {
     close: Times,
 }
 
+impl FourTimes {
+    fn none() -> Self {
+        FourTimes {
+            expire: Times::none(),
+            serve: Times::none(),
+            open: Times::none(),
+            close: Times::none(),
+        }
+    }
+
+    fn tell(&self, rt: &impl Runtime) -> Result<()> {
+        self.expire.tell(rt, "an Expire")?;
+        self.serve.tell(rt, "a Serve")?;
+        self.open.tell(rt, "an Open")?;
+        self.close.tell(rt, "a Close")
+    }
+}
+
 impl Work {
     fn none() -> Self {
         Work {
@@ -73,6 +92,15 @@ impl Work {
             rows: Times::none(),
             entries: Times::none(),
         }
+    }
+
+    /// Tells the times of what copied, or of what served beside copies.
+    fn tell_beside_copies(&self, rt: &impl Runtime) -> Result<()> {
+        if self.copied == 0 {
+            return self.asks.tell(rt, "an Expire and a Serve beside copies");
+        }
+        self.rows.tell(rt, "a copy of all pins")?;
+        self.entries.tell(rt, "a copy of the journal")
     }
 }
 
@@ -105,10 +133,26 @@ fn share<B: Naming + Send + Sync, R: Runtime + Threads + Wait + Sync>(
 {
     let desk = Desk::open(alloc, backend, JOURNAL, hasher)?;
     let desk = SharedDesk::<RandomState, B>::of(opened, 0, desk);
-    make_pins(rt, alloc, &desk, pins)?;
-    serve_alone(rt, alloc, &desk, pins, requests)?;
-    serve_together(rt, alloc, &desk, pins, requests)?;
-    serve_beside_copies(rt, alloc, &desk, pins)
+    use_desk(rt, alloc, &desk, pins, requests)
+}
+
+// A function that has a desk or a seat of its own, and many calls behind which it would end, takes the prover minutes. So most are lent
+// one.
+fn use_desk<B, R>(
+    rt: &R,
+    alloc: Global,
+    desk: &SharedDesk<RandomState, B>,
+    pins: u32,
+    requests: u32,
+) -> Result<()>
+where
+    B: Naming + Send + Sync,
+    R: Runtime + Threads + Wait + Sync,
+{
+    make_pins(rt, alloc, desk, pins)?;
+    serve_alone(rt, alloc, desk, pins, requests)?;
+    serve_together(rt, alloc, desk, pins, requests)?;
+    serve_beside_copies(rt, alloc, desk, pins)
 }
 
 /// Makes the pins.
@@ -119,6 +163,15 @@ fn make_pins<B: Naming, R: Wait>(
     pins: u32,
 ) -> Result<()> {
     let mut seat = Seat::new(alloc, desk, desk.enter(rt)?);
+    make_pins_at(rt, alloc, &mut seat, pins)
+}
+
+fn make_pins_at<B: Naming, R: Wait>(
+    rt: &R,
+    alloc: Global,
+    seat: &mut Seat<'_, RandomState, B>,
+    pins: u32,
+) -> Result<()> {
     for number in 0..pins {
         seat.ask(rt, request(alloc, number)?)?;
     }
@@ -133,22 +186,14 @@ fn serve_alone<B: Naming, R: Runtime + Wait>(
     pins: u32,
     requests: u32,
 ) -> Result<()> {
-    let mut times = FourTimes {
-        expire: Times::none(),
-        serve: Times::none(),
-        open: Times::none(),
-        close: Times::none(),
-    };
+    let mut times = FourTimes::none();
     let mut kept: u64 = 0;
     for request in drawn_requests(alloc, 0, requests, pins)? {
         let how = tell_four(rt, desk, request, &mut times)?;
         kept = kept.saturating_add(u64::from(how == Some(ServedAs::Kept)));
     }
     println!(rt; "alone: {kept} kept")?;
-    times.expire.tell(rt, "an Expire")?;
-    times.serve.tell(rt, "a Serve")?;
-    times.open.tell(rt, "an Open")?;
-    times.close.tell(rt, "a Close")
+    times.tell(rt)
 }
 
 /// One whole request, each of its events by itself, and how it was served if it was.
@@ -161,12 +206,19 @@ fn tell_four<B: Naming, R: Runtime + Wait>(
     let expiry = Event::Expire(request.moment);
     tell_event(rt, desk, expiry, &mut times.expire)?;
     let reply = tell_event(rt, desk, Event::Serve(request), &mut times.serve)?;
-    let Reply::Served(server, how) = reply else {
+    let Some((server, how)) = served(&reply) else {
         return Ok(None);
     };
     tell_event(rt, desk, Event::Open(server), &mut times.open)?;
     tell_event(rt, desk, Event::Close(server), &mut times.close)?;
     Ok(Some(how))
+}
+
+fn served(reply: &Reply) -> Option<(ServerId, ServedAs)> {
+    match reply {
+        Reply::Served(server, how) => Some((*server, *how)),
+        _ => None,
+    }
 }
 
 /// Takes one event to the desk. The pass for it is made beforehand, and stays out.
@@ -199,11 +251,7 @@ where
     let start = Instant::now(rt)?;
     let works = do_jobs(rt, alloc, desk, jobs, &AtomicBool::new(true))?;
     let micros = start.elapsed(rt)?.as_micros();
-    let mut kept: u64 = 0;
-    for found in works {
-        let work = found.context("a call was refused")?;
-        kept = kept.saturating_add(work.kept);
-    }
+    let kept = kept_by_all(&works)?;
     println!(rt; "{THREADS} threads: {kept} kept")?;
     let rate = u128::from(kept)
         .saturating_mul(1_000_000)
@@ -213,6 +261,15 @@ where
         rate.unwrap_or(0)
     )?;
     Ok(())
+}
+
+fn kept_by_all(works: &[Option<Work>]) -> Result<u64> {
+    let mut kept: u64 = 0;
+    for found in works {
+        let work = found.as_ref().context("a call was refused")?;
+        kept = kept.saturating_add(work.kept);
+    }
+    Ok(kept)
 }
 
 /// Requests of all threads but one, which copies all pins and the journal.
@@ -226,25 +283,29 @@ where
     B: Naming + Send + Sync,
     R: Runtime + Threads + Wait + Sync,
 {
+    let jobs = jobs_beside_copies(alloc, pins)?;
+    let works = do_jobs(rt, alloc, desk, jobs, &AtomicBool::new(false))?;
+    tell_beside_copies(rt, &works)
+}
+
+fn jobs_beside_copies(alloc: Global, pins: u32) -> Result<Vec<Job>, AllocError> {
     let mut jobs = Vec::with_capacity(alloc, THREADS as usize)?;
     for thread in 1..THREADS {
         let first = thread.saturating_mul(pins);
         jobs.push(Job::ServeOn { first, pins })?;
     }
     jobs.push(Job::Copy)?;
-    let works = do_jobs(rt, alloc, desk, jobs, &AtomicBool::new(false))?;
+    Ok(jobs)
+}
+
+fn tell_beside_copies(rt: &impl Runtime, works: &[Option<Work>]) -> Result<()> {
     let mut served: usize = 0;
     let mut copied: usize = 0;
     for found in works {
-        let work = found.context("a call was refused")?;
+        let work = found.as_ref().context("a call was refused")?;
+        work.tell_beside_copies(rt)?;
         copied = copied.max(work.copied);
-        if work.copied > 0 {
-            work.rows.tell(rt, "a copy of all pins")?;
-            work.entries.tell(rt, "a copy of the journal")?;
-        } else {
-            served = served.saturating_add(1);
-            work.asks.tell(rt, "an Expire and a Serve beside copies")?;
-        }
+        served = served.saturating_add(usize::from(work.copied == 0));
     }
     println!(rt; "beside copies: {served} threads, {copied} pins copied")?;
     Ok(())
@@ -299,22 +360,28 @@ fn do_job<B: Naming, R: Wait + Clock>(
 ) -> Option<Work> {
     let mut seat = Seat::new(alloc, desk, desk.enter(rt).ok()?);
     let mut work = Work::none();
-    match job {
-        Job::Serve(requests) => {
-            for request in requests {
-                serve(rt, &mut seat, request, &mut work).ok()?;
-            }
-        }
+    let done = match job {
+        Job::Serve(requests) => serve_all(rt, &mut seat, requests, &mut work),
         Job::ServeOn { first, pins } => {
-            serve_on(rt, alloc, &mut seat, (first, pins), copied, &mut work).ok()?
+            serve_on(rt, alloc, &mut seat, (first, pins), copied, &mut work)
         }
-        Job::Copy => {
-            let done = copy_often(rt, alloc, desk, &mut work);
-            copied.store(true, Ordering::SeqCst);
-            done.ok()?
-        }
-    }
+        Job::Copy => copy_often(rt, alloc, desk, copied, &mut work),
+    };
+    done.ok()?;
     Some(work)
+}
+
+/// Serves these requests.
+fn serve_all<B: Naming, R: Wait + Clock>(
+    rt: &R,
+    seat: &mut Seat<'_, RandomState, B>,
+    requests: Vec<Request>,
+    work: &mut Work,
+) -> Result<()> {
+    for request in requests {
+        serve(rt, seat, request, work)?;
+    }
+    Ok(())
 }
 
 /// Serves requests with keys drawn from those of so many pins, from a draw on, until the copies have ended.
@@ -351,27 +418,47 @@ fn serve<B: Naming, R: Wait + Clock>(
         return Ok(());
     };
     work.kept = work.kept.saturating_add(u64::from(how == ServedAs::Kept));
+    open_and_shut(rt, seat, server)
+}
+
+fn open_and_shut<B: Naming, R: Wait>(
+    rt: &R,
+    seat: &mut Seat<'_, RandomState, B>,
+    server: ServerId,
+) -> Result<()> {
     if let Opening::Opened(slot) = seat.open(rt, server)? {
         seat.shut(rt, slot)?;
     }
     Ok(())
 }
 
-/// Copies all pins, and then the journal, and again.
+/// Copies all pins, and then the journal, and again, and says when that has ended, also where it is refused.
 fn copy_often<B: Naming, R: Wait + Clock>(
+    rt: &R,
+    alloc: Global,
+    desk: &SharedDesk<RandomState, B>,
+    copied: &AtomicBool,
+    work: &mut Work,
+) -> Result<()> {
+    let done = copy_each(rt, alloc, desk, work);
+    copied.store(true, Ordering::SeqCst);
+    done
+}
+
+fn copy_each<B: Naming, R: Wait + Clock>(
     rt: &R,
     alloc: Global,
     desk: &SharedDesk<RandomState, B>,
     work: &mut Work,
 ) -> Result<()> {
     for _ in 0..COPIES {
-        copy(rt, alloc, desk, work)?;
+        copy_pins(rt, alloc, desk, work)?;
+        copy_journal(rt, alloc, desk, work)?;
     }
     Ok(())
 }
 
-/// Copies all pins, and then the journal.
-fn copy<B: Naming, R: Wait + Clock>(
+fn copy_pins<B: Naming, R: Wait + Clock>(
     rt: &R,
     alloc: Global,
     desk: &SharedDesk<RandomState, B>,
@@ -381,10 +468,16 @@ fn copy<B: Naming, R: Wait + Clock>(
     let rows = desk.rows(rt, alloc)?;
     work.rows.add(rt, start)?;
     work.copied = rows.len();
-    drop(rows);
-    let start = Instant::now(rt)?;
-    let entries = desk.entries(rt, alloc)?;
-    work.entries.add(rt, start)?;
-    drop(entries);
     Ok(())
+}
+
+fn copy_journal<B: Naming, R: Wait + Clock>(
+    rt: &R,
+    alloc: Global,
+    desk: &SharedDesk<RandomState, B>,
+    work: &mut Work,
+) -> Result<()> {
+    let start = Instant::now(rt)?;
+    let _entries = desk.entries(rt, alloc)?;
+    work.entries.add(rt, start)
 }

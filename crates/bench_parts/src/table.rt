@@ -48,19 +48,30 @@ fn use_table<S: BuildHasher + Drop>(
 ) -> Result<()> {
     let before = resident(rt)?;
     let mut table = Table::new(alloc, settings(pins), hasher);
+    fill_and_use(rt, alloc, &mut table, before, pins)
+}
+
+// A function that has a table of its own, and many calls behind which it would end, takes the prover minutes. So it is lent one.
+fn fill_and_use<S: BuildHasher + Drop>(
+    rt: &impl Runtime,
+    alloc: Global,
+    table: &mut Table<S>,
+    before: u64,
+    pins: u32,
+) -> Result<()> {
     let none = ServerSet::empty();
-    make(rt, alloc, &mut table, (none, 0, pins), "growth")?;
+    make(rt, alloc, table, (none, 0, pins), "growth")?;
     tell_memory(rt, before, pins)?;
-    touch(rt, alloc, &mut table, pins)?;
+    touch(rt, alloc, table, pins)?;
     make(
         rt,
         alloc,
-        &mut table,
+        table,
         (none, pins, pins),
         "an insert with a purge",
     )?;
     tell_memory(rt, before, pins)?;
-    count(rt, alloc, &table)
+    count(rt, alloc, table)
 }
 
 fn tell_memory(rt: &impl Runtime, before: u64, pins: u32) -> Result<()> {
@@ -107,12 +118,22 @@ fn make_each<S: BuildHasher + Drop>(
 ) -> Result<()> {
     let mut number = first;
     for name in names {
-        let start = Instant::now(rt)?;
-        make_one(table, number, name)?;
-        times.add(rt, start)?;
+        time_one(rt, table, number, name, times)?;
         number = number.wrapping_add(1);
     }
     Ok(())
+}
+
+fn time_one<S: BuildHasher + Drop>(
+    rt: &impl Runtime,
+    table: &mut Table<S>,
+    number: u32,
+    name: PinId,
+    times: &mut Times,
+) -> Result<()> {
+    let start = Instant::now(rt)?;
+    make_one(table, number, name)?;
+    times.add(rt, start)
 }
 
 /// Makes a pin whose name is new.

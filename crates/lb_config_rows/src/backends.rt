@@ -29,7 +29,7 @@ type BackendRow = (
 );
 
 /// The web farm's servers have `maxconn 400 rise 2 fall 3` of the `defaults`, and as many pins as their table, or none.
-const FARM: [BackendRow; 5] = [
+const FARM: &[BackendRow] = &[
     (
         Balance::RoundRobin,
         false,
@@ -77,7 +77,7 @@ const FARM: [BackendRow; 5] = [
 pub(crate) const TWO_SERVERS: &[u8] =
     b"backend web\n  stick-table type string size 10\n  stick on hdr(x-id)\n  server a 127.0.0.1:8001 check maxpins 5\n  server b 127.0.0.1:8002 check maxpins 5\n";
 
-const TWO_SERVERS_ROW: [BackendRow; 1] = [(
+const TWO_SERVERS_ROW: &[BackendRow] = &[(
     Balance::RoundRobin,
     false,
     Some((10, None, false)),
@@ -91,7 +91,7 @@ const TWO_SERVERS_ROW: [BackendRow; 1] = [(
 const BACKUPS: &[u8] =
     b"backend shop\n  balance first\n  option allbackups\n  default-server weight 7 maxconn 3 rise 4\n  server a 1.2.3.4:1 weight 0 check fall 9\n  server b 1.2.3.4:2 disabled maxconn 0\n  default-server fall 5\n  server c 1.2.3.4:3 backup check maxpins 6\n  server d 1.2.3.4:4 backup weight 256\n  stick-table type ip size 20 nopurge\n";
 
-const BACKUPS_ROW: [BackendRow; 1] = [(
+const BACKUPS_ROW: &[BackendRow] = &[(
     Balance::First,
     true,
     Some((20, None, true)),
@@ -162,16 +162,13 @@ fn are_backends(alloc: Global, config: &Config, wanted: &[BackendRow]) -> Result
 #[test]
 fn each_backend_opens_as_its_text_says(rt: HostRuntime) -> Result<(), Fail> {
     let farm = web_farm(&rt, rt.alloc());
-    assert!(rt; are_backends(rt.alloc(), &farm, &FARM)?, "the web farm");
+    assert!(rt; are_backends(rt.alloc(), &farm, FARM)?, "the web farm");
     let two = config(&rt, rt.alloc(), TWO_SERVERS);
     assert!(rt;
-        are_backends(rt.alloc(), &two, &TWO_SERVERS_ROW)?,
+        are_backends(rt.alloc(), &two, TWO_SERVERS_ROW)?,
         "two servers"
     );
     let backups = config(&rt, rt.alloc(), BACKUPS);
-    assert!(rt;
-        are_backends(rt.alloc(), &backups, &BACKUPS_ROW)?,
-        "backups"
-    );
+    assert!(rt; are_backends(rt.alloc(), &backups, BACKUPS_ROW)?, "backups");
     Ok(())
 }

@@ -1,5 +1,5 @@
 use lb_acl::{Head, Version, designated, pin_cost};
-use lb_config::{Config, FindFault, read_config};
+use lb_config::{BackendConfig, Config, FindFault, read_config};
 use lb_config_lines::SocketAddress;
 use lb_types::{Balance, Name, ServerId};
 use std::alloc::Global;
@@ -34,42 +34,65 @@ fn is_at(config: &Config, wanted: Option<&[u8]>) -> bool {
     }
 }
 
+// A long function, in which branches meet before it goes on, takes the prover minutes. So each text is looked at by itself.
 #[test]
 fn a_backend_with_a_table_and_the_whole_program(rt: HostRuntime) -> Result<(), Fail> {
     let text =
         b"backend web\n  stick-table type string size 10\n  stick on hdr(x-id)\n  server a 127.0.0.1:8001 check maxpins 5\n  server b 127.0.0.1:8002 check\n";
-    let table = config(&rt, rt.alloc(), text);
-    let Some(web) = table.backends().first() else {
-        panic!(&rt; "no backend");
-    };
-    let (Some(a), Some(b)) = (web.servers().first(), web.servers().last()) else {
-        panic!(&rt; "no servers");
-    };
-    let is_so = table.frontends().is_empty()
-        && (table.relays(), table.tries()) == (8, 8)
-        && is_at(&table, None)
-        && web.name().as_bytes() == b"web".as_slice()
-        && (web.balance(), web.journal()) == (Balance::RoundRobin, 100000);
-    assert!(rt; is_so);
-    assert!(rt; !web.all_backups() && !web.evacuate() && !web.forward_for());
-    // Without `maxpins` a server may hold the whole table.
-    let is_so = web.rules().table().is_some()
-        && web.rules().stick_on().is_some()
-        && (a.settings().max_pins, b.settings().max_pins) == (5, 10)
-        && (web.connect_limit(), web.probe_limit(a)) == (None, Some(2000));
-    assert!(rt; is_so);
+    a_backend_with_a_table(&rt, &config(&rt, rt.alloc(), text));
     let text =
         b"global\nlog 127.0.0.1 local0\ntune.journal 2\nbackend web\nglobal\ntune.relays 3\nstats socket /run/lb level admin\n";
-    let whole = config(&rt, rt.alloc(), text);
-    let is_so = (whole.relays(), whole.tries(), whole.warnings().len()) == (3, 8, 2)
-        && is_at(&whole, Some(b"/run/lb"))
-        && matches!(whole.backends().first(), Some(web) if web.journal() == 2);
-    assert!(rt; is_so);
+    the_whole_program(&rt, &config(&rt, rt.alloc(), text));
     Ok(())
 }
 
+fn a_backend_with_a_table(rt: &impl Abort, table: &Config) {
+    assert!(rt; has_nothing_beside(table));
+    let Some(web) = table.backends().first() else {
+        panic!(rt; "no backend");
+    };
+    assert!(rt; is_web(web) && has_table(web));
+    let (Some(a), Some(b)) = (web.servers().first(), web.servers().last()) else {
+        panic!(rt; "no servers");
+    };
+    // Without `maxpins` a server may hold the whole table.
+    let found = (
+        a.settings().max_pins,
+        b.settings().max_pins,
+        web.probe_limit(a),
+    );
+    assert_eq!(rt; found, (5, 10, Some(2000)));
+}
+
+/// Whether there are neither frontends nor a commands' socket, and the manual's numbers of relays and tries.
+fn has_nothing_beside(table: &Config) -> bool {
+    table.frontends().is_empty() && (table.relays(), table.tries()) == (8, 8) && is_at(table, None)
+}
+
+/// Whether the backend has its name, and for the rest what the manual says of all.
+fn is_web(web: &BackendConfig) -> bool {
+    web.name().as_bytes() == b"web".as_slice()
+        && (web.balance(), web.journal(), web.connect_limit())
+            == (Balance::RoundRobin, 100000, None)
+        && (web.all_backups(), web.evacuate(), web.forward_for()) == (false, false, false)
+}
+
+fn has_table(web: &BackendConfig) -> bool {
+    web.rules().table().is_some() && web.rules().stick_on().is_some()
+}
+
+fn the_whole_program(rt: &impl Abort, whole: &Config) {
+    let found = (whole.relays(), whole.tries(), whole.warnings().len());
+    assert_eq!(rt; found, (3, 8, 2));
+    assert!(rt; is_at(whole, Some(b"/run/lb")));
+    let Some(web) = whole.backends().first() else {
+        panic!(rt; "no backend");
+    };
+    assert_eq!(rt; web.journal(), 2);
+}
+
 /// Of each backend its balance, whether it has `forwardfor`, its limit of servers, and the weight of its first server.
-const DEFAULTS: [(Balance, bool, Option<u32>, u16); 5] = [
+const DEFAULTS: &[(Balance, bool, Option<u32>, u16)] = &[
     (Balance::RoundRobin, false, None, 0),
     (Balance::First, true, Some(7), 9),
     (Balance::LeastConnections, true, Some(7), 0),
@@ -111,7 +134,7 @@ fn defaults_reach_up_to_the_next_ones(rt: HostRuntime) -> Result<(), Fail> {
 }
 
 /// Of each frontend the backend of a GET and of a PUT.
-const CHOSEN: [(Option<usize>, Option<usize>); 4] = [
+const CHOSEN: &[(Option<usize>, Option<usize>)] = &[
     (Some(0), Some(2)),
     (Some(2), Some(2)),
     (Some(0), None),
@@ -122,7 +145,13 @@ const CHOSEN: [(Option<usize>, Option<usize>); 4] = [
 fn requests_go_to_their_backends_and_rules_know_their_servers(rt: HostRuntime) -> Result<(), Fail> {
     let text =
         b"listen own\nuse_backend b if { method PUT }\nlisten other\ndefault_backend b\nfrontend none\nuse_backend own if { method GET }\nfrontend f\nuse_backend b if get\nuse_backend own if get\nacl get method GET\ndefault_backend other\nbackend b\n";
-    let chosen = config(&rt, rt.alloc(), text);
+    requests_go_to_their_backends(&rt, &config(&rt, rt.alloc(), text));
+    let text =
+        b"backend web\nuse-server b if { method GET }\nuse-server a if { method GET HEAD }\npin-cost 20 unless { method GET }\nserver a 1.2.3.4:1\nserver b 1.2.3.4:2\n";
+    rules_know_their_servers(&rt, rt.alloc(), &config(&rt, rt.alloc(), text))
+}
+
+fn requests_go_to_their_backends(rt: &impl Abort, chosen: &Config) {
     let count = chosen.frontends().len();
     for (frontend, wanted) in chosen.frontends().iter().zip(CHOSEN.iter()) {
         let found = (
@@ -132,26 +161,26 @@ fn requests_go_to_their_backends_and_rules_know_their_servers(rt: HostRuntime) -
         let name = frontend.name();
         assert_eq!(rt; (count, found), (4, *wanted), "of {name:?}");
     }
-    let text =
-        b"backend web\nuse-server b if { method GET }\nuse-server a if { method GET HEAD }\npin-cost 20 unless { method GET }\nserver a 1.2.3.4:1\nserver b 1.2.3.4:2\n";
-    let ruled = config(&rt, rt.alloc(), text);
+}
+
+fn rules_know_their_servers(rt: &impl Abort, alloc: Global, ruled: &Config) -> Result<(), Fail> {
     let Some(web) = ruled.backends().first() else {
-        panic!(&rt; "no backend");
+        panic!(rt; "no backend");
     };
     let both = [ServerId::new(1), ServerId::new(0)];
-    let servers = designated(rt.alloc(), web.rules().use_servers(), &head("GET"))?;
+    let servers = designated(alloc, web.rules().use_servers(), &head("GET"))?;
+    assert!(rt; servers.as_slice() == both.as_slice());
     let costs = web.rules().pin_costs();
-    let is_so = servers.as_slice() == both.as_slice()
-        && (
-            pin_cost(costs, &head("GET")),
-            pin_cost(costs, &head("HEAD")),
-        ) == (1, 20);
-    assert!(rt; is_so);
+    let found = (
+        pin_cost(costs, &head("GET")),
+        pin_cost(costs, &head("HEAD")),
+    );
+    assert_eq!(rt; found, (1, 20));
     Ok(())
 }
 
 /// A text, and the limits of a dial, of the queue and of a check.
-const LIMITS: [(&[u8], Option<u32>, Option<u32>, Option<u32>); 5] = [
+const LIMITS: &[(&[u8], Option<u32>, Option<u32>, Option<u32>)] = &[
     (b"backend w\nserver a 1.2.3.4:1", None, None, Some(2000)),
     (
         b"backend w\ntimeout connect 3s\nserver a 1.2.3.4:1 inter 5",
@@ -182,7 +211,7 @@ const LIMITS: [(&[u8], Option<u32>, Option<u32>, Option<u32>); 5] = [
 #[test]
 fn limits_of_times(rt: HostRuntime) -> Result<(), Fail> {
     for (text, connect, queue, check) in LIMITS {
-        let config = config(&rt, rt.alloc(), text);
+        let config = config(&rt, rt.alloc(), *text);
         let Some(backend) = config.backends().first() else {
             panic!(&rt; "no backend");
         };
@@ -194,7 +223,7 @@ fn limits_of_times(rt: HostRuntime) -> Result<(), Fail> {
             backend.queue_limit(),
             backend.probe_limit(server),
         );
-        assert_eq!(rt; found, (connect, queue, check), "{text:?}");
+        assert_eq!(rt; found, (*connect, *queue, *check), "{text:?}");
     }
     Ok(())
 }
@@ -202,7 +231,16 @@ fn limits_of_times(rt: HostRuntime) -> Result<(), Fail> {
 #[test]
 fn names_are_found(rt: HostRuntime) -> Result<(), Fail> {
     let text = b"frontend f\nbackend web\nserver a 1.2.3.4:1\nserver b 1.2.3.4:1\nlisten shop\n";
-    let config = config(&rt, rt.alloc(), text);
+    find_names(&rt, &config(&rt, rt.alloc(), text))?;
+    let numbers = (
+        FindFault::NoBackend.number(),
+        FindFault::NoSuchServer.number(),
+    );
+    assert_eq!(rt; numbers, (103, 10));
+    Ok(())
+}
+
+fn find_names(rt: &impl Abort, config: &Config) -> Result<(), Fail> {
     let [web, shop, a, b] = [
         Name::read(b"web")?,
         Name::read(b"shop")?,
@@ -227,10 +265,5 @@ fn names_are_found(rt: HostRuntime) -> Result<(), Fail> {
         Err(FindFault::NoBackend),
     ];
     assert_eq!(rt; found, wanted);
-    let numbers = (
-        FindFault::NoBackend.number(),
-        FindFault::NoSuchServer.number(),
-    );
-    assert_eq!(rt; numbers, (103, 10));
     Ok(())
 }

@@ -41,7 +41,7 @@ fn is_fault(fault: &Option<ConfigFault>, wanted: Option<(u32, u16, &[u8])>) -> b
 }
 
 /// Texts, and the line, the number and the word of their first fault.
-const FAULTS: [(Reader, &[u8], Option<(u32, u16, &[u8])>); 43] = [
+const FAULTS: &[(Reader, &[u8], Option<(u32, u16, &[u8])>)] = &[
     (
         Reader::Text,
         b"backend web\n  balance uri",
@@ -223,8 +223,8 @@ const FAULTS: [(Reader, &[u8], Option<(u32, u16, &[u8])>); 43] = [
 #[test]
 fn the_first_fault_of_a_text_and_references_last(rt: HostRuntime) {
     for (reader, text, wanted) in FAULTS {
-        let fault = first_fault(reader, rt.alloc(), text);
-        assert!(rt; is_fault(&fault, wanted), "{reader:?} {text:?}");
+        let fault = first_fault(*reader, rt.alloc(), *text);
+        assert!(rt; is_fault(&fault, *wanted), "{reader:?} {text:?}");
     }
 }
 
@@ -283,7 +283,7 @@ fn shown(alloc: Global, sections: &Sections) -> Result<String, AllocError> {
 }
 
 /// Texts, and their sections and warnings as `shown` tells them.
-const SECTIONS: [(&[u8], &str); 2] = [
+const SECTIONS: &[(&[u8], &str)] = &[
     (
         b"global\n  log 127.0.0.1 local0\n  ca-base /c\n  stats socket /run/lb mode 600\nlisten web\n  bind *:8080\n  option 'httplog' \"x\n  server a localhost:8001\n  timeout tunnel 1h",
         "Global 4;Listen web 6 8 a;2 log;3 ca-base;4 stats socket;7 option httplog;9 timeout tunnel;",
@@ -299,9 +299,9 @@ fn settings_stand_in_their_sections_and_ignored_lines_have_warnings(
     rt: HostRuntime,
 ) -> Result<(), Fail> {
     for (text, wanted) in SECTIONS {
-        let sections = sections_of(&rt, rt.alloc(), text);
+        let sections = sections_of(&rt, rt.alloc(), *text);
         let shown = shown(rt.alloc(), &sections)?;
-        assert_eq!(rt; shown.as_str(), wanted, "{text:?}");
+        assert_eq!(rt; shown.as_str(), *wanted, "{text:?}");
     }
     Ok(())
 }

@@ -98,7 +98,7 @@ fn a_server_has_its_line_and_the_defaults_of_the_manual(rt: HostRuntime) -> Resu
 }
 
 /// Texts of three servers, and the weight, `rise` and `fall` of each.
-const DEFAULT_SERVERS: [(&[u8], [(u16, u16, u16); 3]); 3] = [
+const DEFAULT_SERVERS: &[(&[u8], [(u16, u16, u16); 3])] = &[
     (
         b"backend web\nserver a 1.2.3.4:1\ndefault-server weight 5 check\nserver b 1.2.3.4:1\ndefault-server rise 4\nserver c 1.2.3.4:1 weight 9 fall 7",
         [(1, 0, 0), (5, 2, 3), (9, 4, 7)],
@@ -115,7 +115,7 @@ const DEFAULT_SERVERS: [(&[u8], [(u16, u16, u16); 3]); 3] = [
 ];
 
 /// Texts, and how often the first server is checked, and by which request line and fields.
-const CHECKS: [(&[u8], u32, &[u8], &[u8]); 3] = [
+const CHECKS: &[(&[u8], u32, &[u8], &[u8])] = &[
     (
         b"backend web\nserver a 127.0.0.1:80 check inter 1500us\noption httpchk",
         2,
@@ -141,16 +141,19 @@ fn a_default_server_counts_for_the_servers_behind_it_and_what_a_check_sends(
     rt: HostRuntime,
 ) -> Result<(), Fail> {
     for (text, wanted) in DEFAULT_SERVERS {
-        let numbers = numbers_of(&rt, rt.alloc(), text)?;
+        let numbers = numbers_of(&rt, rt.alloc(), *text)?;
         assert_eq!(rt; numbers.as_slice(), wanted.as_slice(), "{text:?}");
     }
     for (text, interval, line, fields) in CHECKS {
-        let servers = servers_of(&rt, rt.alloc(), text)?;
+        let servers = servers_of(&rt, rt.alloc(), *text)?;
         let Some(server) = servers.first() else {
             panic!(&rt; "no server in {text:?}");
         };
-        let request = Some(CheckRequest { line, fields });
-        let is_so = server.interval() == interval && server.check_rule().request() == request;
+        let request = Some(CheckRequest {
+            line: *line,
+            fields: *fields,
+        });
+        let is_so = server.interval() == *interval && server.check_rule().request() == request;
         assert!(rt; is_so, "{text:?}");
     }
     Ok(())

@@ -1,7 +1,8 @@
 use check_workers_rule::CheckRequest;
 use lb_acl::{Field, Head, KeyLen, TableType, Version, designated, pin_cost, pin_key};
-use lb_config::{BackendConfig, Config, read_config};
+use lb_config::{BackendConfig, Config, Frontend, read_config};
 use lb_config_lines::SocketAddress;
+use lb_config_values::ServerConfig;
 use lb_types::{Balance, ServerId};
 use server_state::{AdminState, CheckSettings};
 use std::alloc::Global;
@@ -130,7 +131,7 @@ fn head<'a>(
 }
 
 /// Requests, who sends them, and the backend that they go to.
-const REQUESTS: [(&str, &str, [u8; 4], usize); 9] = [
+const REQUESTS: &[(&str, &str, [u8; 4], usize)] = &[
     ("GET", "/", ELSEWHERE, PAGES),
     ("GET", "/api/basket?x=1", ELSEWHERE, API),
     ("POST", "/api", ELSEWHERE, PAGES),
@@ -142,47 +143,50 @@ const REQUESTS: [(&str, &str, [u8; 4], usize); 9] = [
     ("GET", "/staff/a.webp", OFFICE, PICTURES),
 ];
 
+// A long function, in which branches meet before it goes on, takes the prover minutes. So each part is looked at by itself.
 #[test]
 fn the_process_and_the_backends_of_requests(rt: HostRuntime) -> Result<(), Fail> {
     let config = web_farm(&rt, rt.alloc());
-    let has_path = match config.socket() {
-        Some(SocketAddress::Path(path)) => path.as_bytes() == b"/run/stickylb.sock".as_slice(),
-        _ => false,
-    };
-    assert!(rt;
-        has_path && (config.relays(), config.tries(), config.warnings().len()) == (16, 8, 0)
-    );
+    assert!(rt; has_socket(&config));
+    let found = (config.relays(), config.tries(), config.warnings().len());
+    let counts = (config.frontends().len(), config.backends().len());
+    assert_eq!(rt; (found, counts), ((16, 8, 0), (2, 5)));
     for backend in config.backends() {
-        let found = (
-            backend.journal(),
-            backend.connect_limit(),
-            backend.queue_limit(),
-        );
-        let is_so = found == (200000, Some(3000), Some(5000))
-            && backend.forward_for()
-            && !backend.all_backups();
-        assert!(rt; is_so);
+        assert!(rt; has_the_defaults(backend));
     }
     let (Some(shop), Some(tools)) = (config.frontends().first(), config.frontends().last()) else {
         panic!(&rt; "no frontends");
     };
-    let found = (
-        config.frontends().len(),
-        config.backends().len(),
-        shop.rules().binds().len(),
-        shop.client_limit(),
-    );
-    assert_eq!(rt; found, (2, 5, 2, Some(30000)));
-    for (method, target, source, wanted) in REQUESTS {
-        let head = head(method, target, &[], source);
-        let found = (shop.backend_of(&head), tools.backend_of(&head));
-        assert_eq!(rt; found, (Some(wanted), Some(TOOLS)), "{target}");
-    }
+    requests_go_to_their_backends(&rt, shop, tools);
     Ok(())
 }
 
+fn has_socket(config: &Config) -> bool {
+    match config.socket() {
+        Some(SocketAddress::Path(path)) => path.as_bytes() == b"/run/stickylb.sock".as_slice(),
+        _ => false,
+    }
+}
+
+/// Whether the backend has what the `global` section and the `defaults` say of all.
+fn has_the_defaults(backend: &BackendConfig) -> bool {
+    backend.journal() == 200000
+        && (backend.connect_limit(), backend.queue_limit()) == (Some(3000), Some(5000))
+        && (backend.forward_for(), backend.all_backups()) == (true, false)
+}
+
+fn requests_go_to_their_backends(rt: &impl Abort, shop: &Frontend, tools: &Frontend) {
+    let found = (shop.rules().binds().len(), shop.client_limit());
+    assert_eq!(rt; found, (2, Some(30000)));
+    for (method, target, source, wanted) in REQUESTS {
+        let head = head(*method, *target, &[], *source);
+        let found = (shop.backend_of(&head), tools.backend_of(&head));
+        assert_eq!(rt; found, (Some(*wanted), Some(TOOLS)), "{target}");
+    }
+}
+
 /// Of each server of the pages what the configuration gives to pins, its weight, and whether it stands by.
-const SERVERS: [(u32, u16, bool); 5] = [
+const SERVERS: &[(u32, u16, bool)] = &[
     (200000, 1, false),
     (200000, 1, false),
     (200000, 2, false),
@@ -193,55 +197,70 @@ const SERVERS: [(u32, u16, bool); 5] = [
 #[test]
 fn servers_of_the_pages_and_of_the_others(rt: HostRuntime) -> Result<(), Fail> {
     let config = web_farm(&rt, rt.alloc());
-    let pages = backend(&rt, &config, PAGES);
+    the_pages(&rt, backend(&rt, &config, PAGES));
+    the_api(&rt, backend(&rt, &config, API));
+    the_pictures(&rt, backend(&rt, &config, PICTURES));
+    let closed = backend(&rt, &config, CLOSED).servers().len();
+    assert_eq!(rt; closed, 0);
+    Ok(())
+}
+
+fn the_pages(rt: &impl Abort, pages: &BackendConfig) {
     let found = (pages.balance(), pages.evacuate(), pages.servers().len());
     assert_eq!(rt; found, (Balance::RoundRobin, true, 5));
     for (server, wanted) in pages.servers().iter().zip(SERVERS.iter()) {
-        let settings = server.settings();
-        let found = (settings.max_pins, settings.weight, settings.backup);
-        let is_so = found == *wanted
-            && (settings.admin, settings.max_connections) == (AdminState::Ready, 400)
-            && settings.check == Some(CheckSettings { rise: 2, fall: 3 })
-            && (server.interval(), pages.probe_limit(server)) == (2000, Some(2000));
-        assert!(rt; is_so);
+        assert!(rt; is_page(pages, server, *wanted));
     }
     let Some(first) = pages.servers().first() else {
-        panic!(&rt; "no servers");
+        panic!(rt; "no servers");
     };
     let request = CheckRequest {
         line: b"GET /health HTTP/1.1\r\n",
         fields: b"Host: 10.20.1.11:8080\r\n\r\n",
     };
     assert!(rt; first.check_rule().request() == Some(request));
-    let api = backend(&rt, &config, API);
+}
+
+fn is_page(pages: &BackendConfig, server: &ServerConfig, wanted: (u32, u16, bool)) -> bool {
+    let settings = server.settings();
+    (settings.max_pins, settings.weight, settings.backup) == wanted
+        && (settings.admin, settings.max_connections) == (AdminState::Ready, 400)
+        && settings.check == Some(CheckSettings { rise: 2, fall: 3 })
+        && (server.interval(), pages.probe_limit(server)) == (2000, Some(2000))
+}
+
+fn the_api(rt: &impl Abort, api: &BackendConfig) {
     let Some(last) = api.servers().last() else {
-        panic!(&rt; "no servers");
+        panic!(rt; "no servers");
     };
+    let settings = last.settings();
     let found = (
-        api.balance(),
-        last.settings().admin,
-        last.settings().max_pins,
+        (api.balance(), api.server_limit()),
+        (settings.admin, settings.max_pins),
     );
-    assert_eq!(rt;
-        found,
-        (Balance::LeastConnections, AdminState::Maint, 102400)
+    let wanted = (
+        (Balance::LeastConnections, Some(30000)),
+        (AdminState::Maint, 102400),
     );
+    assert_eq!(rt; found, wanted);
     let request = CheckRequest {
         line: b"HEAD /v2/up HTTP/1.0\r\n",
         fields: b"\r\n",
     };
     assert!(rt; last.check_rule().request() == Some(request));
-    let pictures = backend(&rt, &config, PICTURES);
-    let closed = backend(&rt, &config, CLOSED).servers().len();
-    let found = (api.server_limit(), pictures.server_limit(), closed);
-    assert_eq!(rt; found, (Some(30000), Some(10000), 0));
+}
+
+fn the_pictures(rt: &impl Abort, pictures: &BackendConfig) {
+    assert_eq!(rt; pictures.server_limit(), Some(10000));
     for server in pictures.servers() {
-        let settings = server.settings();
-        let is_so = (settings.max_connections, settings.max_pins) == (2000, 0)
-            && server.check_rule().request().is_none();
-        assert!(rt; is_so);
+        assert!(rt; is_picture(server));
     }
-    Ok(())
+}
+
+fn is_picture(server: &ServerConfig) -> bool {
+    let settings = server.settings();
+    (settings.max_connections, settings.max_pins) == (2000, 0)
+        && server.check_rule().request().is_none()
 }
 
 #[test]
@@ -271,23 +290,37 @@ fn tables_keys_and_rules(rt: HostRuntime) -> Result<(), Fail> {
         );
         assert_eq!(rt; found, (kind, size, Some(expire), is_nopurge));
     }
+    let pictures = backend(&rt, &config, PICTURES).rules();
+    assert!(rt; pictures.table().is_none());
+    a_visit(
+        &rt,
+        rt.alloc(),
+        backend(&rt, &config, PAGES),
+        backend(&rt, &config, API),
+    )
+}
+
+/// A partner's visit, who looks at the next version of the pages, beside one of the office.
+fn a_visit(
+    rt: &impl Abort,
+    alloc: Global,
+    pages: &BackendConfig,
+    api: &BackendConfig,
+) -> Result<(), Fail> {
     let fields = [
         Field::new(b"Cookie", b"a=1; shop_session=s7"),
         Field::new(b"X-Preview", b"no, yes"),
     ];
     let visit = head("GET", "/", &fields, PARTNER);
-    let rules = backend(&rt, &config, PAGES).rules();
-    let wanted = [ServerId::new(3)];
-    let servers = designated(rt.alloc(), rules.use_servers(), &visit)?;
-    let Some(stick_on) = rules.stick_on() else {
-        panic!(&rt; "no key");
+    let servers = designated(alloc, pages.rules().use_servers(), &visit)?;
+    assert!(rt; servers.as_slice() == [ServerId::new(3)].as_slice());
+    let Some(stick_on) = pages.rules().stick_on() else {
+        panic!(rt; "no key");
     };
-    let costs = backend(&rt, &config, API).rules().pin_costs();
+    let has_key = pin_key(alloc, stick_on, &visit)?.is_some();
+    let costs = api.rules().pin_costs();
     let office = head("GET", "/", &[], OFFICE);
-    let is_so = servers.as_slice() == wanted.as_slice()
-        && pin_key(rt.alloc(), stick_on, &visit)?.is_some()
-        && (pin_cost(costs, &visit), pin_cost(costs, &office)) == (20, 1)
-        && backend(&rt, &config, PICTURES).rules().table().is_none();
-    assert!(rt; is_so);
+    let found = (pin_cost(costs, &visit), pin_cost(costs, &office));
+    assert_eq!(rt; (has_key, found), (true, (20, 1)));
     Ok(())
 }

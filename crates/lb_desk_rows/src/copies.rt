@@ -21,7 +21,7 @@ const SCORE: Score = Score {
 };
 
 /// An event of each kind; of requests one without a key, one with a key, and one with rules too.
-const EVENTS: [Ask; 10] = [
+const EVENTS: &[Ask] = &[
     Serve(7, ""),
     Serve(7, "k1"),
     ServeBy(7, "k1", &[B, A, B]),
@@ -48,8 +48,18 @@ fn a_copy_is_equal_to_its_entry(rt: HostRuntime) -> Result<(), Fail> {
 }
 
 fn entries_of_each_kind(alloc: Global) -> Result<Vec<Entry>, Fail> {
+    let mut entries = Vec::new(alloc);
+    for (reply, ask) in replies_of_each_kind(alloc)?.into_iter().zip(EVENTS) {
+        let event = ask.event(alloc)?;
+        entries.push(Entry { event, reply })?;
+    }
+    Ok(entries)
+}
+
+fn replies_of_each_kind(alloc: Global) -> Result<Vec<Reply>, Fail> {
     let sheet = read_plan(alloc, PLAN.as_bytes())?.sheet(alloc)?;
-    let replies = vec![in alloc;
+    let sheet = Shared::new(alloc, sheet)?;
+    Ok(vec![in alloc;
         Reply::Served(server(A), ServedAs::Kept),
         Reply::Served(server(B), ServedAs::Made),
         Reply::Opened,
@@ -57,14 +67,8 @@ fn entries_of_each_kind(alloc: Global) -> Result<Vec<Entry>, Fail> {
         Reply::Expired(3),
         Reply::Checked(Checked::Ignored),
         Reply::Done,
-        Reply::Sheet(Shared::new(alloc, sheet)?),
+        Reply::Sheet(sheet),
         Reply::Installed(SCORE),
         Reply::Refused(Refusal::Stale),
-    ]?;
-    let mut entries = Vec::new(alloc);
-    for (i, reply) in replies.into_iter().enumerate() {
-        let event = EVENTS[i % EVENTS.len()].event(alloc)?;
-        entries.push(Entry { event, reply })?;
-    }
-    Ok(entries)
+    ]?)
 }

@@ -1,7 +1,8 @@
 //! A row at running desks, with a hasher of fixed seed and with a seeded one.
 
-use crate::asked::in_short;
+use crate::asked::{Said, in_short};
 use crate::row::Row;
+use lb_desk_model::Event;
 use lb_desk_step::Desk;
 use std::alloc::Global;
 use std::hash::{BuildHasher, BuildHasherDefault, FoldHasher, RandomState};
@@ -20,13 +21,23 @@ pub(crate) fn play_at_desks(
 ) -> Result<(), Fail> {
     for journal in JOURNALS {
         let fixed = BuildHasherDefault::<FoldHasher>::new();
-        let desk = row.farm.desk(alloc, journal, fixed)?;
-        play_at(rt, alloc, row, desk)?;
+        play_at_one(rt, alloc, row, journal, fixed)?;
         let seeded = RandomState::new(rt)?;
-        let desk = row.farm.desk(alloc, journal, seeded)?;
-        play_at(rt, alloc, row, desk)?;
+        play_at_one(rt, alloc, row, journal, seeded)?;
     }
     Ok(())
+}
+
+// A function that has a desk of its own, and many calls behind which it would end, takes the prover minutes. So it is lent out.
+fn play_at_one<S: BuildHasher + Drop>(
+    rt: &impl Abort,
+    alloc: Global,
+    row: &Row,
+    journal: u32,
+    hasher: S,
+) -> Result<(), Fail> {
+    let mut desk = row.farm.desk(alloc, journal, hasher)?;
+    play_at(rt, alloc, row, &mut desk)
 }
 
 /// The same at one desk, which has taken no event yet.
@@ -34,17 +45,24 @@ fn play_at<S: BuildHasher + Drop>(
     rt: &impl Abort,
     alloc: Global,
     row: &Row,
-    mut desk: Desk<S>,
+    desk: &mut Desk<S>,
 ) -> Result<(), Fail> {
     for step in row.steps {
-        let reply = desk.step(step.0.event(alloc)?)?;
-        assert_eq!(rt;
-            in_short(&reply),
-            step.1,
-            "{} at a desk: {step:?}",
-            row.name
-        );
+        let said = desk_says(desk, step.0.event(alloc)?)?;
+        assert_eq!(rt; said, step.1, "{} at a desk: {step:?}", row.name);
     }
+    has_journal(rt, row, desk);
+    Ok(())
+}
+
+/// The desk's reply to an event, in short. No clause says what it is, which nobody here asks the prover.
+fn desk_says<S: BuildHasher>(desk: &mut Desk<S>, event: Event) -> Result<Said, Fail> {
+    let reply = desk.step(event)?;
+    Ok(in_short(&reply))
+}
+
+/// What a desk's journal keeps of a row.
+fn has_journal<S: BuildHasher + Drop>(rt: &impl Abort, row: &Row, desk: &Desk<S>) {
     let journal = desk.journal();
     let first = row.steps.len().saturating_sub(journal.capacity());
     assert_eq!(rt; desk.journal_first(), first as u64, "{}", row.name);
@@ -53,5 +71,4 @@ fn play_at<S: BuildHasher + Drop>(
     for (entry, step) in journal.iter().zip(kept) {
         assert_eq!(rt; in_short(&entry.reply), step.1, "{} in a journal", row.name);
     }
-    Ok(())
 }

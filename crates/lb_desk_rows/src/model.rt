@@ -12,7 +12,7 @@ use std::alloc::Global;
 use std::test::Fail;
 
 /// Refusals with their numbers.
-const NUMBERS: [(Refusal, u16); 9] = [
+const NUMBERS: &[(Refusal, u16)] = &[
     (Refusal::NoSuchServer, 10),
     (Refusal::OutOfRange, 11),
     (Refusal::NotChecked, 12),
@@ -27,7 +27,7 @@ const NUMBERS: [(Refusal, u16); 9] = [
 #[test]
 fn refusals_have_their_numbers(rt: HostRuntime) {
     for (refusal, number) in NUMBERS {
-        assert_eq!(rt; refusal.number(), number, "of {refusal:?}");
+        assert_eq!(rt; refusal.number(), *number, "of {refusal:?}");
     }
 }
 

@@ -6,7 +6,7 @@ use crate::farms::{Farm, TWO, server};
 use lb_desk_model::{Event, Reply};
 use lb_desk_plain::Machine;
 use lb_desk_plain_events::MachineState;
-use pin_set::PinKey;
+use pin_set::{PinKey, TablePin};
 use std::alloc::Global;
 use std::process::Abort;
 use std::random::RandomSource;
@@ -43,21 +43,54 @@ pub(crate) fn play(
     rows: &[Row],
 ) -> Result<(), Fail> {
     for row in rows {
-        let mut events = Vec::new(alloc);
-        for (ask, _) in row.steps {
-            events.push(ask.event(alloc)?)?;
-        }
-        let mut machine = row.farm.machine(alloc)?;
-        for (event, step) in events.iter().zip(row.steps) {
-            let reply = machine.step(alloc, event)?;
-            assert_eq!(rt; in_short(&reply), step.1, "{}: {step:?}", row.name);
-        }
-        let copy = machine.state().copied(alloc)?;
-        assert!(rt; ends_as(row, &copy), "{}", row.name);
-        let replies = row.farm.machine(alloc)?.run(alloc, &events)?;
-        assert!(rt; are_said(&replies, row.steps), "{} as a run", row.name);
+        let events = events_of(alloc, row)?;
+        play_by_steps(rt, alloc, row, &events)?;
+        play_as_a_run(rt, alloc, row, &events)?;
         play_at_desks(rt, alloc, row)?;
     }
+    Ok(())
+}
+
+fn events_of(alloc: Global, row: &Row) -> Result<Vec<Event>, Fail> {
+    let mut events = Vec::new(alloc);
+    for (ask, _) in row.steps {
+        events.push(ask.event(alloc)?)?;
+    }
+    Ok(events)
+}
+
+// A function that has a machine of its own, and many calls behind which it would end, takes the prover minutes. So it is lent out.
+fn play_by_steps(rt: &impl Abort, alloc: Global, row: &Row, events: &[Event]) -> Result<(), Fail> {
+    let mut machine = row.farm.machine(alloc)?;
+    play_each(rt, alloc, row, events, &mut machine)?;
+    let copy = machine.state().copied(alloc)?;
+    assert!(rt; ends_as(row, &copy), "{}", row.name);
+    Ok(())
+}
+
+fn play_each(
+    rt: &impl Abort,
+    alloc: Global,
+    row: &Row,
+    events: &[Event],
+    machine: &mut Machine,
+) -> Result<(), Fail> {
+    for (event, step) in events.iter().zip(row.steps) {
+        let said = machine_says(alloc, machine, event)?;
+        assert_eq!(rt; said, step.1, "{}: {step:?}", row.name);
+    }
+    Ok(())
+}
+
+/// The machine's reply to an event, in short. No clause says what it is, which nobody here asks the prover.
+fn machine_says(alloc: Global, machine: &mut Machine, event: &Event) -> Result<Said, Fail> {
+    let reply = machine.step(alloc, event)?;
+    Ok(in_short(&reply))
+}
+
+fn play_as_a_run(rt: &impl Abort, alloc: Global, row: &Row, events: &[Event]) -> Result<(), Fail> {
+    let replies = row.farm.machine(alloc)?.run(alloc, events)?;
+    assert!(rt; are_said(&replies, row.steps), "{} as a run", row.name);
     Ok(())
 }
 
@@ -92,20 +125,27 @@ fn has_pins(state: &MachineState, wanted: &[Pinned]) -> bool {
     if pins.len() != wanted.len() {
         return false;
     }
-    for (pin, (key, at, used)) in pins.iter().zip(wanted) {
-        let same = match &pin.pin.id.key {
-            PinKey::Text(text) => text.as_bytes() == key.as_bytes(),
-            PinKey::Ipv4(_) => false,
-        };
-        if !same
-            || !pin.pin.id.want.is_empty()
-            || pin.pin.place != Some(server(*at))
-            || pin.last_use.as_millis() != *used
-        {
+    for (pin, wanted) in pins.iter().zip(wanted) {
+        if !is_pin(pin, *wanted) {
             return false;
         }
     }
     true
+}
+
+fn is_pin(pin: &TablePin, wanted: Pinned) -> bool {
+    let (key, at, used) = wanted;
+    has_key(&pin.pin.id.key, key)
+        && pin.pin.id.want.is_empty()
+        && pin.pin.place == Some(server(at))
+        && pin.last_use.as_millis() == used
+}
+
+fn has_key(key: &PinKey, wanted: &str) -> bool {
+    match key {
+        PinKey::Text(text) => text.as_bytes() == wanted.as_bytes(),
+        PinKey::Ipv4(_) => false,
+    }
 }
 
 /// A backend, and events with the version after each.
@@ -120,11 +160,27 @@ pub(crate) struct Counted {
 pub(crate) fn count(rt: &impl Abort, alloc: Global, rows: &[Counted]) -> Result<(), Fail> {
     for row in rows {
         let mut machine = row.farm.machine(alloc)?;
-        for step in row.steps {
-            let event = step.0.event(alloc)?;
-            let _ = machine.step(alloc, &event)?;
-            assert_eq!(rt; machine.state().version(), step.1, "{}: {step:?}", row.name);
-        }
+        count_each(rt, alloc, row, &mut machine)?;
     }
     Ok(())
+}
+
+fn count_each(
+    rt: &impl Abort,
+    alloc: Global,
+    row: &Counted,
+    machine: &mut Machine,
+) -> Result<(), Fail> {
+    for step in row.steps {
+        let version = version_behind(alloc, machine, step.0)?;
+        assert_eq!(rt; version, step.1, "{}: {step:?}", row.name);
+    }
+    Ok(())
+}
+
+/// The version behind an event.
+fn version_behind(alloc: Global, machine: &mut Machine, ask: Ask) -> Result<u64, Fail> {
+    let event = ask.event(alloc)?;
+    let _ = machine.step(alloc, &event)?;
+    Ok(machine.state().version())
 }

@@ -141,7 +141,15 @@ impl Events {
 
     /// A change to a server, of which few are refused.
     pub fn change(&mut self) -> Change {
-        let setting = match self.dice.roll(10) {
+        let setting = self.setting();
+        Change {
+            server: self.server(),
+            setting,
+        }
+    }
+
+    fn setting(&mut self) -> Setting {
+        match self.dice.roll(10) {
             0 => Setting::Admin(AdminState::Maint),
             1 => Setting::Admin(AdminState::Drain),
             2 | 3 | 4 | 5 => Setting::Admin(AdminState::Ready),
@@ -149,10 +157,6 @@ impl Events {
             7 => Setting::Weight(self.number(4, 257)),
             8 => Setting::MaxConnections(self.number(3, 1 << 32)),
             _ => Setting::MaxPins(self.number(9, 16_777_217)),
-        };
-        Change {
-            server: self.server(),
-            setting,
         }
     }
 
@@ -176,14 +180,29 @@ impl Events {
                 return Ok(Event::Install(old.clone()?));
             }
         }
-        let own = plan(alloc, sheet)?.into_plan();
-        let given = if chosen < 3 {
-            changed(alloc, &mut self.dice, &own, version)?.unwrap_or(own)
-        } else {
-            own
-        };
-        let given = Shared::new(alloc, given)?;
+        let given = made_plan(alloc, &mut self.dice, sheet, chosen < 3, version)?;
+        self.give(alloc, given)
+    }
+
+    /// The install of a plan, which is the newest from now on.
+    fn give(&mut self, alloc: Global, plan: Plan) -> Result<Event> {
+        let given = Shared::new(alloc, plan)?;
         self.plan = Some(given.clone()?);
         Ok(Event::Install(given))
     }
+}
+
+/// A plan for the sheet. Something in it is changed where it may be, unless that were no plan.
+fn made_plan(
+    alloc: Global,
+    dice: &mut Dice,
+    sheet: &Sheet,
+    may_change: bool,
+    version: u64,
+) -> Result<Plan> {
+    let own = plan(alloc, sheet)?.into_plan();
+    if may_change {
+        return Ok(changed(alloc, dice, &own, version)?.unwrap_or(own));
+    }
+    Ok(own)
 }

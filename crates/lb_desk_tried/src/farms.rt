@@ -19,20 +19,28 @@ pub fn backend_in(alloc: Global, text: &str) -> Result<Backend> {
 /// The configuration of a farm of one to four servers: each balance, with a table of few pins or without one.
 pub fn drawn_farm(alloc: Global, dice: &mut Dice) -> Result<String> {
     let mut text = String::new(alloc);
+    add_backend(alloc, &mut text, dice)?;
+    Ok(text)
+}
+
+fn add_backend(alloc: Global, text: &mut String, dice: &mut Dice) -> Result<()> {
     text.push_str("backend web\n  balance ")?;
     text.push_str(balance(dice.roll(3)))?;
     text.push_str("\n")?;
-    if dice.is_one_in(3) {
-        text.push_str("  option allbackups\n")?;
-    }
+    text.push_str(if_so(dice.is_one_in(3), "  option allbackups\n"))?;
     if !dice.is_one_in(8) {
-        add_table(alloc, &mut text, dice)?;
+        add_table(alloc, text, dice)?;
     }
     let servers = dice.roll(4).saturating_add(1);
     for number in 0..servers {
-        add_server(alloc, &mut text, dice, number)?;
+        add_server(alloc, text, dice, number)?;
     }
-    Ok(text)
+    Ok(())
+}
+
+/// The words where it is so, and else none.
+fn if_so(is_so: bool, words: &str) -> &str {
+    if is_so { words } else { "" }
 }
 
 fn balance(number: u32) -> &'static str {
@@ -47,14 +55,18 @@ fn balance(number: u32) -> &'static str {
 fn add_table(alloc: Global, text: &mut String, dice: &mut Dice) -> Result<()> {
     let size = dice.roll(8).saturating_add(1);
     text.push_str(&format!(in alloc; "  stick-table type string size {size}")?)?;
+    add_expire(alloc, text, dice)?;
+    text.push_str(if_so(dice.is_one_in(3), " nopurge"))?;
+    text.push_str("\n")?;
+    Ok(())
+}
+
+/// Half of the tables have a limit.
+fn add_expire(alloc: Global, text: &mut String, dice: &mut Dice) -> Result<()> {
     if dice.is_one_in(2) {
         let expire = dice.roll(400).saturating_add(50);
         text.push_str(&format!(in alloc; " expire {expire}ms")?)?;
     }
-    if dice.is_one_in(3) {
-        text.push_str(" nopurge")?;
-    }
-    text.push_str("\n")?;
     Ok(())
 }
 
@@ -65,9 +77,23 @@ fn add_server(alloc: Global, text: &mut String, dice: &mut Dice, number: u32) ->
     text.push_str(&format!(in alloc;
         "  server s{number} 127.0.0.1:80 weight {weight} maxconn {connections}"
     )?)?;
+    add_limit(alloc, text, dice)?;
+    add_check(alloc, text, dice)?;
+    text.push_str(if_so(dice.is_one_in(4), " backup"))?;
+    text.push_str("\n")?;
+    Ok(())
+}
+
+/// Half of the servers have a limit of pins.
+fn add_limit(alloc: Global, text: &mut String, dice: &mut Dice) -> Result<()> {
     if dice.is_one_in(2) {
         text.push_str(&format!(in alloc; " maxpins {}", dice.roll(6))?)?;
     }
+    Ok(())
+}
+
+/// Two of three servers are checked.
+fn add_check(alloc: Global, text: &mut String, dice: &mut Dice) -> Result<()> {
     if !dice.is_one_in(3) {
         let (rise, fall) = (dice.roll(3), dice.roll(3));
         text.push_str(&format!(in alloc;
@@ -76,9 +102,5 @@ fn add_server(alloc: Global, text: &mut String, dice: &mut Dice, number: u32) ->
             fall.saturating_add(1)
         )?)?;
     }
-    if dice.is_one_in(4) {
-        text.push_str(" backup")?;
-    }
-    text.push_str("\n")?;
     Ok(())
 }

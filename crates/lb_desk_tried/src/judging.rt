@@ -1,6 +1,6 @@
 //! The journal of a desk that was closed, run again.
 
-use lb_desk_model::Backend;
+use lb_desk_model::{Backend, Event, Reply};
 use lb_desk_ports::Refused;
 use lb_desk_shared::Closing;
 use lb_desk_step::run_world;
@@ -31,18 +31,28 @@ pub fn judge(
     if closing.journal.first() != 0 {
         return Ok(Some(JournalFault::NotWhole));
     }
+    let events = events_of(alloc, closing)?;
+    let hasher = BuildHasherDefault::<FoldHasher>::new();
+    let replies = run_world(alloc, backend, events, hasher)?;
+    Ok(other_reply(&replies, closing))
+}
+
+fn events_of(alloc: Global, closing: &Closing) -> Result<Vec<Event>, Refused> {
     let mut events = Vec::with_capacity(alloc, closing.journal.len())?;
     for entry in closing.journal.iter() {
         events.push(entry.event.clone()?)?;
     }
-    let hasher = BuildHasherDefault::<FoldHasher>::new();
-    let replies = run_world(alloc, backend, events, hasher)?;
+    Ok(events)
+}
+
+/// The first entry with another reply than this one.
+fn other_reply(replies: &[Reply], closing: &Closing) -> Option<JournalFault> {
     let mut number = 0u64;
     for (reply, entry) in replies.iter().zip(closing.journal.iter()) {
         if *reply != entry.reply {
-            return Ok(Some(JournalFault::OtherReply(number)));
+            return Some(JournalFault::OtherReply(number));
         }
         number = number.saturating_add(1);
     }
-    Ok(None)
+    None
 }

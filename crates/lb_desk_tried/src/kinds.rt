@@ -6,7 +6,7 @@ use server_state::Checked;
 use std::alloc::{AllocError, Global};
 
 /// The kinds of replies, by their numbers.
-const NAMES: [&str; 25] = [
+const NAMES: &[&str] = &[
     "kept",
     "moved",
     "made",

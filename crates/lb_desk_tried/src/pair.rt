@@ -49,22 +49,41 @@ impl<S: BuildHasher + Drop> Pair<S> {
 
     /// Asks both for the event. Gives the desk's reply, and in what the two differ, where they do.
     pub fn step(&mut self, alloc: Global, event: &Event) -> Result<(Reply, Option<Difference>)> {
-        let reply = self.desk.step(event.clone()?)?;
-        let Some(plain) = self.plain_reply(alloc, event, &reply)? else {
-            return Ok((reply, Some(Difference::Places)));
-        };
-        let difference = if reply != plain {
-            Some(Difference::Reply)
-        } else if self.desk.version() != self.machine.state().version() {
-            Some(Difference::Version)
-        } else {
-            None
-        };
-        self.log.push(Entry {
-            event: event.clone()?,
-            reply: plain,
-        })?;
+        let reply = step(&mut self.desk, event)?;
+        let difference = self.step_plainly(alloc, event, &reply)?;
         Ok((reply, difference))
+    }
+
+    /// Asks the machine for the event that the desk replied to.
+    fn step_plainly(
+        &mut self,
+        alloc: Global,
+        event: &Event,
+        reply: &Reply,
+    ) -> Result<Option<Difference>> {
+        let Some(plain) = self.plain_reply(alloc, event, reply)? else {
+            return Ok(Some(Difference::Places));
+        };
+        let difference = self.difference(reply, &plain);
+        self.note(event, plain)?;
+        Ok(difference)
+    }
+
+    fn difference(&self, reply: &Reply, plain: &Reply) -> Option<Difference> {
+        if reply != plain {
+            return Some(Difference::Reply);
+        }
+        if self.desk.version() != self.machine.state().version() {
+            return Some(Difference::Version);
+        }
+        None
+    }
+
+    /// Adds an event with the machine's reply to the log.
+    fn note(&mut self, event: &Event, reply: Reply) -> Result<()> {
+        let event = event.clone()?;
+        self.log.push(Entry { event, reply })?;
+        Ok(())
     }
 
     /// The machine's reply. Where pins moved at the desk, the machine's move to the same places; there is no reply where these aren't
@@ -76,11 +95,16 @@ impl<S: BuildHasher + Drop> Pair<S> {
         reply: &Reply,
     ) -> Result<Option<Reply>> {
         if let Reply::Installed(_) = reply {
-            let rows = self.desk.table_rows(alloc)?;
-            let places: Vec<Place> = rows.iter().map(|row| row.pin.place).collect(alloc)?;
+            let places = self.places(alloc)?;
             return Ok(self.machine.step_at(alloc, event, &places)?);
         }
         Ok(Some(self.machine.step(alloc, event)?))
+    }
+
+    /// Where the desk's pins are.
+    fn places(&self, alloc: Global) -> Result<Vec<Place>> {
+        let rows = self.desk.table_rows(alloc)?;
+        Ok(rows.iter().map(|row| row.pin.place).collect(alloc)?)
     }
 
     /// Whether both have the same pins, in the same order.
@@ -88,6 +112,7 @@ impl<S: BuildHasher + Drop> Pair<S> {
         let rows = self.desk.table_rows(alloc)?;
         Ok(rows.as_slice() == self.machine.state().pins())
     }
+
     /// Whether the desk's journal is the end of the log of all events, as long as it may be.
     pub fn has_journal(&self) -> bool {
         let journal = self.desk.journal();
@@ -101,4 +126,9 @@ impl<S: BuildHasher + Drop> Pair<S> {
                 .zip(newest)
                 .all(|(own, wanted)| own == wanted)
     }
+}
+
+/// Takes the event to the desk. No clause says what is replied, which nobody here asks the prover.
+fn step<S: BuildHasher>(desk: &mut Desk<S>, event: &Event) -> Result<Reply> {
+    Ok(desk.step(event.clone()?)?)
 }

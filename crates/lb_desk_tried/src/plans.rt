@@ -7,6 +7,11 @@ use dual_cert_plan::Plan;
 use lb_types::Counted;
 use std::alloc::Global;
 
+// The places of words in a plan's lines.
+const PRICE: usize = 5;
+
+const PLACE: usize = 3;
+
 /// The plan under this version, with the last word of one of its lines, or where one of its rows goes, perhaps changed; none where that
 /// is no plan.
 pub(crate) fn changed(
@@ -16,20 +21,32 @@ pub(crate) fn changed(
     version: u64,
 ) -> Result<Option<Plan>> {
     let text = text_of(alloc, plan)?;
+    let mut other = String::new(alloc);
+    push_changed(alloc, dice, &text, version, &mut other)?;
+    Ok(read_plan(alloc, other.as_bytes()).ok())
+}
+
+/// Adds a plan's text under this version, with one of its lines changed.
+fn push_changed(
+    alloc: Global,
+    dice: &mut Dice,
+    text: &str,
+    version: u64,
+    other: &mut String,
+) -> Result<()> {
     let lines = text.lines().count();
     let chosen = dice.roll((lines % 65536) as u32) as usize;
-    let mut other = String::new(alloc);
     for (number, line) in text.lines().enumerate() {
         if line.starts_with("version ") {
-            other.push_str(&format!(in alloc; "version {version}\n")?)?;
+            other.push_str(&format!(in alloc; "version {version}")?)?;
         } else if number == chosen {
-            other.push_str(&changed_line(alloc, dice, line)?)?;
+            push_changed_line(alloc, dice, line, other)?;
         } else {
             other.push_str(line)?;
-            other.push_str("\n")?;
         }
+        other.push_str("\n")?;
     }
-    Ok(read_plan(alloc, other.as_bytes()).ok())
+    Ok(())
 }
 
 fn text_of(alloc: Global, plan: &Plan) -> Result<String> {
@@ -40,26 +57,34 @@ fn text_of(alloc: Global, plan: &Plan) -> Result<String> {
 }
 
 /// A server's line with another price, or a row that goes elsewhere. Other lines stay as they are.
-fn changed_line(alloc: Global, dice: &mut Dice, line: &str) -> Result<String> {
-    let words: Vec<&str> = line.split_whitespace().collect(alloc)?;
-    let place = match words.first().copied() {
-        Some("server") => 5,
-        Some("row") => 3,
-        _ => usize::MAX,
-    };
-    let mut other = String::new(alloc);
-    for (number, word) in words.iter().enumerate() {
+fn push_changed_line(alloc: Global, dice: &mut Dice, line: &str, other: &mut String) -> Result<()> {
+    let place = changed_place(line);
+    for (number, word) in line.split_whitespace().enumerate() {
         if number > 0 {
             other.push_str(" ")?;
         }
-        if number != place {
-            other.push_str(word)?;
-        } else if place == 5 {
-            other.push_str(&format!(in alloc; "{}", dice.roll(3))?)?;
+        if number == place {
+            other.push_str(&drawn_word(alloc, dice, place)?)?;
         } else {
-            other.push_str(&format!(in alloc; "s{}", dice.roll(4))?)?;
+            other.push_str(word)?;
         }
     }
-    other.push_str("\n")?;
-    Ok(other)
+    Ok(())
+}
+
+/// The place of the word that changes: of a server its price, and of a row where it goes.
+fn changed_place(line: &str) -> usize {
+    match line.split_whitespace().next() {
+        Some("server") => PRICE,
+        Some("row") => PLACE,
+        _ => usize::MAX,
+    }
+}
+
+/// Another word for this place.
+fn drawn_word(alloc: Global, dice: &mut Dice, place: usize) -> Result<String> {
+    if place == PRICE {
+        return Ok(format!(in alloc; "{}", dice.roll(3))?);
+    }
+    Ok(format!(in alloc; "s{}", dice.roll(4))?)
 }

@@ -26,6 +26,13 @@ pub struct Tried {
     pub found: Option<String>,
 }
 
+impl Tried {
+    fn add(&mut self, event: &Event, reply: &Reply) {
+        self.events = self.events.saturating_add(1);
+        self.kinds.add(event, reply);
+    }
+}
+
 /// Hands at least so many random events to desks and to the plain machine, with a hasher for the desks.
 ///
 /// It ends at the first difference.
@@ -58,35 +65,88 @@ fn try_farm<S: BuildHasher + Drop + Copy>(
 ) -> Result<()> {
     let mut dice = Dice::new(seed);
     let text = drawn_farm(alloc, &mut dice)?;
-    let costs = match dice.roll(3) {
+    let costs = drawn_costs(&mut dice);
+    if let Some(found) = try_text(alloc, hasher, seed, costs, &text, tried)? {
+        tried.found = Some(told(alloc, &text, &found)?);
+    }
+    Ok(())
+}
+
+/// The most that it costs to move a pin.
+fn drawn_costs(dice: &mut Dice) -> u32 {
+    match dice.roll(3) {
         0 => 1,
         1 => 2,
         _ => 1000,
-    };
-    let backend = backend_in(alloc, &text)?;
+    }
+}
+
+/// An event that the two took differently, and its number.
+#[derive(Drop)]
+struct Found {
+    number: u64,
+    event: Event,
+    difference: Difference,
+}
+
+// A function that has a pair of its own, and many calls behind which it would end, takes the prover minutes. So the pair is lent out.
+fn try_text<S: BuildHasher + Drop + Copy>(
+    alloc: Global,
+    hasher: S,
+    seed: u64,
+    costs: u32,
+    text: &str,
+    tried: &mut Tried,
+) -> Result<Option<Found>> {
+    let backend = backend_in(alloc, text)?;
     let mut events = Events::new(seed, backend.servers().len(), costs);
     let journal = JOURNALS[(seed % 4) as usize];
     let mut pair = Pair::open(alloc, &backend, journal, hasher)?;
     tried.farms = tried.farms.saturating_add(1);
+    try_pair(alloc, &mut events, &mut pair, tried)
+}
+
+/// Hands events to the pair until the two differ.
+fn try_pair<S: BuildHasher + Drop>(
+    alloc: Global,
+    events: &mut Events,
+    pair: &mut Pair<S>,
+    tried: &mut Tried,
+) -> Result<Option<Found>> {
     for number in 0..EVENTS {
         let event = events.next(alloc, pair.version())?;
-        let (reply, difference) = pair.step(alloc, &event)?;
-        events.learn(&reply)?;
-        tried.events = tried.events.saturating_add(1);
-        tried.kinds.add(&event, &reply);
-        let looks = number % ROWS == 0
-            || number.saturating_add(1) == EVENTS
-            || is_installed(&reply);
-        let difference = match difference {
-            None if looks => hidden_difference(alloc, &pair)?,
-            found => found,
-        };
-        if let Some(difference) = difference {
-            tried.found = Some(told(alloc, &text, number, &event, difference)?);
-            break;
+        if let Some(difference) = try_event(alloc, events, pair, number, &event, tried)? {
+            return Ok(Some(Found {
+                number,
+                event,
+                difference,
+            }));
         }
     }
-    Ok(())
+    Ok(None)
+}
+
+/// Hands one event to the pair, and tells in what the two differ.
+fn try_event<S: BuildHasher + Drop>(
+    alloc: Global,
+    events: &mut Events,
+    pair: &mut Pair<S>,
+    number: u64,
+    event: &Event,
+    tried: &mut Tried,
+) -> Result<Option<Difference>> {
+    let (reply, difference) = pair.step(alloc, event)?;
+    events.learn(&reply)?;
+    tried.add(event, &reply);
+    if difference.is_some() || !looks(number, &reply) {
+        return Ok(difference);
+    }
+    hidden_difference(alloc, pair)
+}
+
+/// Whether all pins and the journal are compared behind the event of this number.
+fn looks(number: u64, reply: &Reply) -> bool {
+    number % ROWS == 0 || number.saturating_add(1) == EVENTS || is_installed(reply)
 }
 
 /// In what the two differ that no reply shows.
@@ -110,12 +170,11 @@ fn is_installed(reply: &Reply) -> bool {
     }
 }
 
-fn told(
-    alloc: Global,
-    farm: &str,
-    number: u64,
-    event: &Event,
-    difference: Difference,
-) -> Result<String> {
+fn told(alloc: Global, farm: &str, found: &Found) -> Result<String> {
+    let Found {
+        number,
+        event,
+        difference,
+    } = found;
     Ok(format!(in alloc; "{farm}event {number}, {event:?}: {difference:?}")?)
 }
