@@ -8,6 +8,8 @@
 #[cfg(test)]
 mod checking;
 #[cfg(test)]
+mod parts;
+#[cfg(test)]
 mod plan_texts;
 #[cfg(test)]
 mod plans;

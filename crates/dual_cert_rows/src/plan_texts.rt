@@ -1,8 +1,9 @@
-use crate::checking::line_of;
+use crate::checking::expect_verdict;
+use crate::parts::{kind, server};
 use crate::plans;
-use cert_check::check;
-use dual_cert::{Plan, Sheet, read_plan, read_sheet, write_plan, write_sheet};
-use lb_types::Counted;
+use dual_cert::{Plan, PricedServer, Sheet, read_plan, read_sheet, write_plan, write_sheet};
+use lb_types::{Counted, NameFault, ServerId, ServerSet};
+use lb_types_pins::Row;
 use std::alloc::Global;
 use std::process::Abort;
 use std::test::Fail;
@@ -26,12 +27,21 @@ fn expect_plan(rt: &impl Abort, alloc: Global, text: &str, line: &str) -> Result
     let written = plan_text(alloc, &plan)?;
     assert_eq!(rt; written.as_slice(), text.as_bytes(), "{text}");
     let sheet = plan.sheet(alloc)?;
-    let verdict = line_of(alloc, check(&sheet, &plan))?;
-    assert_eq!(rt; verdict.as_str(), line, "{text}");
-    let plan = read_plan(alloc, &written)?;
-    let sheet = sheet_again(alloc, &sheet)?;
-    let verdict = line_of(alloc, check(&sheet, &plan))?;
-    assert_eq!(rt; verdict.as_str(), line, "{text}, read again");
+    expect_verdict(rt, alloc, &sheet, &plan, line, text)?;
+    expect_again(rt, alloc, &sheet, &written, line)
+}
+
+/// The plan that was written, and the sheet, are judged so once they are read again.
+fn expect_again(
+    rt: &impl Abort,
+    alloc: Global,
+    sheet: &Sheet,
+    written: &[u8],
+    line: &str,
+) -> Result<(), Fail> {
+    let plan = read_plan(alloc, written)?;
+    let sheet = sheet_again(alloc, sheet)?;
+    expect_verdict(rt, alloc, &sheet, &plan, line, "read again")?;
     Ok(())
 }
 
@@ -47,11 +57,16 @@ fn plans_go_round_and_are_judged(rt: HostRuntime) -> Result<(), Fail> {
     expect_plans(&rt, rt.alloc(), &plans::PLANS)?;
     expect_plans(&rt, rt.alloc(), &plans::INSTALLED)?;
     expect_plans(&rt, rt.alloc(), &plans::AT_LIMITS)?;
-    for (count, usage, lines, line) in plans::OF_MANY_SERVERS {
-        let text = plans::plan_of_servers(rt.alloc(), count, usage, lines)?;
+    for (count, usage, lines, line) in &plans::OF_MANY_SERVERS {
+        let text = plans::plan_of_servers(rt.alloc(), *count, usage, lines)?;
         expect_plan(&rt, rt.alloc(), &text, line)?;
     }
     Ok(())
+}
+
+fn priced(name: &str, capacity: Option<u32>, price: u64) -> Result<PricedServer, NameFault> {
+    let server = server(name, capacity)?;
+    Ok(PricedServer { server, price })
 }
 
 #[test]
@@ -59,19 +74,28 @@ fn a_plan_is_read(rt: HostRuntime) -> Result<(), Fail> {
     let text =
         "stickyplan 2\nversion 7\nserver a off\nserver b cap 1 price 9\nserver c cap 4 price 0\n\
         row 1 a b b 3\nrow 2 b - b,c 1\nend\n";
+    let servers = [
+        priced("a", None, 0)?,
+        priced("b", Some(1), 9)?,
+        priced("c", Some(4), 0)?,
+    ];
+    let [a, b, c] = [ServerId::new(0), ServerId::new(1), ServerId::new(2)];
+    let only_b = ServerSet::empty().with(b);
+    let rows = [
+        Row {
+            kind: kind(Some(a), only_b, 3),
+            new_place: Some(b),
+            count: 1,
+        },
+        Row {
+            kind: kind(Some(b), only_b.with(c), 1),
+            new_place: None,
+            count: 2,
+        },
+    ];
     let plan = read_plan(rt.alloc(), text.as_bytes())?;
     assert_eq!(rt; plan.version(), 7);
-    let servers = plan.servers();
-    assert_eq!(rt; servers.len(), 3);
-    assert_eq!(rt; servers[0].server.capacity, None);
-    assert_eq!(rt; servers[1].server.name.as_bytes(), b"b".as_slice());
-    assert_eq!(rt; servers[1].server.capacity, Some(1));
-    assert_eq!(rt; servers[1].price, 9);
-    let rows = plan.rows();
-    assert_eq!(rt; rows.len(), 2);
-    assert_eq!(rt; rows[0].kind.cost, 3);
-    assert_eq!(rt; rows[1].count, 2);
-    assert_eq!(rt; rows[1].kind.permitted.len(), 2);
-    assert_eq!(rt; rows[1].new_place, None);
+    assert_eq!(rt; plan.servers(), servers.as_slice());
+    assert_eq!(rt; plan.rows(), rows.as_slice());
     Ok(())
 }

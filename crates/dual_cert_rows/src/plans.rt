@@ -237,7 +237,18 @@ pub(crate) fn plan_of_servers(
     usage: &str,
     lines: &str,
 ) -> Result<String, AllocError> {
-    let mut text = String::from_str(alloc, "stickyplan 1\nversion 1\n")?;
+    text_of_servers(alloc, "stickyplan", count, usage, lines)
+}
+
+/// The text of a first word, servers `s1` to `s<count>`, each with this usage, and these lines behind them.
+pub(crate) fn text_of_servers(
+    alloc: Global,
+    word: &str,
+    count: u32,
+    usage: &str,
+    lines: &str,
+) -> Result<String, AllocError> {
+    let mut text = format!(in alloc; "{word} 1\nversion 1\n")?;
     for number in 1..=count {
         let line = format!(in alloc; "server s{number} {usage}\n")?;
         text.push_str(&line)?;

@@ -1,5 +1,6 @@
 //! Texts of sheets.
 
+use crate::plans::text_of_servers;
 use std::alloc::{AllocError, Global};
 
 pub(crate) const SHEETS: [&str; 27] = [
@@ -57,11 +58,5 @@ pub(crate) fn sheet_of_servers(
     count: u32,
     lines: &str,
 ) -> Result<String, AllocError> {
-    let mut text = String::from_str(alloc, "stickysheet 1\nversion 1\n")?;
-    for number in 1..=count {
-        let line = format!(in alloc; "server s{number} cap 1\n")?;
-        text.push_str(&line)?;
-    }
-    text.push_str(lines)?;
-    Ok(text)
+    text_of_servers(alloc, "stickysheet", count, "cap 1", lines)
 }

@@ -35,6 +35,9 @@ pub(crate) enum Judged {
     NotPermitted,
 }
 
+/// How many pins there are of each place, permitted set, cost and new place.
+type Rows = BTreeMap<(u8, u8, u8, u8), u64>;
+
 const NAMES: [&str; 4] = ["-", "aa", "ab", "ac"];
 
 fn name(spot: Spot) -> &'static str {
@@ -156,59 +159,82 @@ impl Farm {
         assignment: &[Spot],
         prices: &[u64],
     ) -> Result<Plan, Fail> {
-        let mut rows: BTreeMap<(u8, u8, u8, u8), u64> = BTreeMap::new(alloc);
+        let rows = self.rows(alloc, assignment)?;
+        let mut text = String::new(alloc);
+        self.add_heading(alloc, prices, &mut text)?;
+        self.add_rows(alloc, &rows, &mut text)?;
+        Ok(read_plan(alloc, text.as_bytes())?)
+    }
+
+    /// The pins of each kind that go to the same place, counted.
+    fn rows(&self, alloc: Global, assignment: &[Spot]) -> Result<Rows, AllocError> {
+        let mut rows = BTreeMap::new(alloc);
         for (pin, spot) in self.pins.iter().zip(assignment) {
             let count = rows
                 .entry((pin.place, self.permitted(pin), pin.cost, *spot))?
                 .or_insert(0);
-            *count = count.saturating_add(1);
+            *count = u64::saturating_add(*count, 1);
         }
-        let mut text = self.heading(alloc, prices)?;
-        for ((place, permitted, cost, spot), count) in &rows {
-            let set = set_word(alloc, *permitted)?;
+        Ok(rows)
+    }
+
+    fn add_rows(&self, alloc: Global, rows: &Rows, text: &mut String) -> Result<(), AllocError> {
+        for ((place, permitted, cost, spot), count) in rows {
             let (place, spot) = (name(*place), name(*spot));
-            let line = if self.has_costs() {
-                format!(in alloc; "row {count} {place} {spot} {set} {cost}\n")?
-            } else {
-                format!(in alloc; "row {count} {place} {spot} {set}\n")?
-            };
-            text.push_str(&line)?;
+            text.push_str(&format!(in alloc; "row {count} {place} {spot} ")?)?;
+            add_set(*permitted, text)?;
+            if self.has_costs() {
+                text.push_str(&format!(in alloc; " {cost}")?)?;
+            }
+            text.push('\n')?;
         }
-        text.push_str("end\n")?;
-        Ok(read_plan(alloc, text.as_bytes())?)
+        text.push_str("end\n")
     }
 
     fn has_costs(&self) -> bool {
         self.pins.iter().any(|pin| pin.cost != 1)
     }
 
-    fn heading(&self, alloc: Global, prices: &[u64]) -> Result<String, AllocError> {
-        let format = if self.has_costs() { 2 } else { 1 };
-        let mut text = format!(in alloc; "stickyplan {format}\nversion 7\n")?;
+    fn add_heading(
+        &self,
+        alloc: Global,
+        prices: &[u64],
+        text: &mut String,
+    ) -> Result<(), AllocError> {
+        text.push_str(if self.has_costs() {
+            "stickyplan 2\nversion 7\n"
+        } else {
+            "stickyplan 1\nversion 7\n"
+        })?;
         for (server, (capacity, price)) in self.capacities.iter().zip(prices).enumerate() {
             let name = name((server.saturating_add(1) % 256) as u8);
-            let line = match capacity {
-                None => format!(in alloc; "server {name} off\n")?,
-                Some(room) => format!(in alloc; "server {name} cap {room} price {price}\n")?,
-            };
-            text.push_str(&line)?;
+            text.push_str(&server_line(alloc, name, *capacity, *price)?)?;
         }
-        Ok(text)
+        Ok(())
     }
 }
 
-fn set_word(alloc: Global, permitted: u8) -> Result<String, AllocError> {
-    let mut word = String::new(alloc);
+fn server_line(
+    alloc: Global,
+    name: &str,
+    capacity: Option<u8>,
+    price: u64,
+) -> Result<String, AllocError> {
+    match capacity {
+        None => format!(in alloc; "server {name} off\n"),
+        Some(room) => format!(in alloc; "server {name} cap {room} price {price}\n"),
+    }
+}
+
+/// Adds the word of the servers that the bits stand for.
+fn add_set(permitted: u8, text: &mut String) -> Result<(), AllocError> {
+    let mut is_first = true;
     for server in 0..3u8 {
         if (permitted >> server) & 1 == 1 {
-            if !word.is_empty() {
-                word.push(',')?;
-            }
-            word.push_str(name(server + 1))?;
+            text.push_str(if is_first { "" } else { "," })?;
+            text.push_str(name(server + 1))?;
+            is_first = false;
         }
     }
-    if word.is_empty() {
-        word.push('-')?;
-    }
-    Ok(word)
+    text.push_str(if is_first { "-" } else { "" })
 }

@@ -52,6 +52,17 @@ impl Case {
         Ok(check(&self.sheet, &plan))
     }
 
+    /// The same at the prices of this code.
+    fn verdict_at(
+        &self,
+        alloc: Global,
+        assignment: &[Spot],
+        code: u64,
+    ) -> Result<Result<Score, CheckFault>, Fail> {
+        let prices = self.prices(alloc, code)?;
+        self.verdict(alloc, assignment, &prices)
+    }
+
     /// What the check has to say of the plan of an assignment, where the prices are right ones or aren't.
     fn due(&self, assignment: &[Spot], is_right: bool) -> Result<Score, CheckFault> {
         match self.farm.judged(assignment) {
@@ -125,81 +136,106 @@ impl Case {
     /// Some prices make the check accept the plan of an assignment, or none, as it is best or isn't.
     fn try_prices(&self, rt: &impl Abort, alloc: Global) -> Result<(), Fail> {
         for assignment in &self.assignments {
-            let mut accepted = 0u64;
+            let mut is_accepted = false;
             for code in 0..self.price_codes() {
-                let prices = self.prices(alloc, code)?;
-                let verdict = self.verdict(alloc, assignment, &prices)?;
-                assert_eq!(rt;
-                    verdict,
-                    self.due(assignment, verdict.is_ok()),
-                    "{assignment:?}"
-                );
-                accepted = accepted.saturating_add(u64::from(verdict.is_ok()));
+                let verdict = self.verdict_at(alloc, assignment, code)?;
+                let due = self.due(assignment, verdict.is_ok());
+                assert_eq!(rt; verdict, due, "{assignment:?}");
+                is_accepted = is_accepted || verdict.is_ok();
             }
             let is_best = self.farm.judged(assignment) == self.best;
-            assert_eq!(rt; accepted > 0, is_best, "{assignment:?}");
+            assert_eq!(rt; is_accepted, is_best, "{assignment:?}");
         }
         Ok(())
+    }
+
+    fn try_as(&self, rt: &impl Abort, alloc: Global, trial: Trial) -> Result<(), Fail> {
+        match trial {
+            Trial::AllPrices => {
+                self.try_prices(rt, alloc)?;
+                self.try_spread(rt, alloc)
+            }
+            Trial::RightPrices => self.try_assignments(rt, alloc),
+            Trial::Spread => {
+                self.try_assignments(rt, alloc)?;
+                self.try_spread(rt, alloc)
+            }
+        }
     }
 
     /// The plan of a best assignment is spread over the pins as an assignment with the same score.
     fn try_spread(&self, rt: &impl Abort, alloc: Global) -> Result<(), Fail> {
         let prices = self.right_prices(alloc)?;
         for assignment in &self.assignments {
-            let plan = self.farm.plan(alloc, assignment, &prices)?;
-            let due = self.due(assignment, true);
-            match spread_best(alloc, &self.view, &plan)? {
-                Some(places) if places.len() == self.view.pins().len() => {
-                    assert_eq!(rt; Ok(score(&self.view, &places)), due, "{assignment:?}");
-                }
-                Some(_) => return Err(Fail::new("each pin has a place")),
-                None => assert!(rt; due.is_err(), "{assignment:?}"),
-            }
+            let scored = self.score_of(alloc, assignment, &prices)?;
+            assert_eq!(rt; scored, self.due(assignment, true).ok(), "{assignment:?}");
         }
         Ok(())
     }
+
+    /// The score of the pins' places once the plan of an assignment is spread over them, if it is best.
+    fn score_of(
+        &self,
+        alloc: Global,
+        assignment: &[Spot],
+        prices: &[u64],
+    ) -> Result<Option<Score>, Fail> {
+        let plan = self.farm.plan(alloc, assignment, prices)?;
+        match spread_best(alloc, &self.view, &plan)? {
+            Some(places) if places.len() == self.view.pins().len() => {
+                Ok(Some(score(&self.view, &places)))
+            }
+            Some(_) => Err(Fail::new("each pin has a place")),
+            None => Ok(None),
+        }
+    }
 }
 
-/// All lists of `len` digits below a base, lowest digit first.
-fn all_digits(alloc: Global, base: u8, len: usize) -> Result<Vec<Vec<u8>>, AllocError> {
+/// All lists of `len` digits below a base, the first digit first, and of these the rising ones alone where that is asked for.
+fn digit_lists(
+    alloc: Global,
+    base: u8,
+    len: usize,
+    is_rising: bool,
+) -> Result<Vec<Vec<u8>>, AllocError> {
     let mut all = Vec::new(alloc);
     all.push(Vec::new(alloc))?;
     for _ in 0..len {
-        let mut longer = Vec::new(alloc);
-        for shorter in &all {
-            for digit in 0..base {
-                let mut digits = shorter.clone()?;
-                digits.push(digit)?;
-                longer.push(digits)?;
-            }
-        }
-        all = longer;
+        all = longer_lists(alloc, &all, base, is_rising)?;
     }
     Ok(all)
 }
 
-/// All lists of `len` rising digits below a base.
-fn rising_digits(alloc: Global, base: u8, len: usize) -> Result<Vec<Vec<u8>>, AllocError> {
-    let mut all = Vec::new(alloc);
-    all.push(Vec::new(alloc))?;
-    for _ in 0..len {
-        let mut longer = Vec::new(alloc);
-        for shorter in &all {
-            for digit in shorter.last().copied().unwrap_or(0)..base {
-                let mut digits = shorter.clone()?;
-                digits.push(digit)?;
-                longer.push(digits)?;
-            }
+/// The lists with one digit more.
+fn longer_lists(
+    alloc: Global,
+    lists: &[Vec<u8>],
+    base: u8,
+    is_rising: bool,
+) -> Result<Vec<Vec<u8>>, AllocError> {
+    let mut longer = Vec::new(alloc);
+    for list in lists {
+        let least = match list.last() {
+            Some(last) if is_rising => *last,
+            _ => 0,
+        };
+        for digit in least..base {
+            longer.push(list_with(list, digit)?)?;
         }
-        all = longer;
     }
-    Ok(all)
+    Ok(longer)
+}
+
+fn list_with(list: &Vec<u8>, digit: u8) -> Result<Vec<u8>, AllocError> {
+    let mut digits = list.clone()?;
+    digits.push(digit)?;
+    Ok(digits)
 }
 
 /// All assignments of the farm's pins, lawful or not.
 fn assignments(alloc: Global, farm: &Farm) -> Result<Vec<Vec<Spot>>, AllocError> {
     let spots = (farm.capacities.len().saturating_add(1) % 256) as u8;
-    all_digits(alloc, spots, farm.pins.len())
+    digit_lists(alloc, spots, farm.pins.len(), false)
 }
 
 /// The capacities of a code's digits, the highest digit standing for a server that isn't usable.
@@ -243,13 +279,13 @@ fn kinds(alloc: Global, farm: &Farm) -> Result<Vec<SmallPin>, AllocError> {
 fn farms(alloc: Global, servers: usize, pins: usize) -> Result<Vec<Farm>, AllocError> {
     let mut farms = Vec::new(alloc);
     let off = (pins.saturating_add(1) % 254) as u8;
-    for rooms in &rising_digits(alloc, off + 1, servers)? {
+    for rooms in &digit_lists(alloc, off + 1, servers, true)? {
         let bare = Farm {
             capacities: capacities_of(alloc, rooms, pins)?,
             pins: Vec::new(alloc),
         };
         let kinds = kinds(alloc, &bare)?;
-        for chosen in &rising_digits(alloc, (kinds.len() % 256) as u8, pins)? {
+        for chosen in &digit_lists(alloc, (kinds.len() % 256) as u8, pins, true)? {
             let own = chosen
                 .iter()
                 .filter_map(|kind| kinds.get(usize::from(*kind)).copied())
@@ -301,19 +337,46 @@ fn random_farm(alloc: Global, dice: &mut Dice) -> Result<Farm, AllocError> {
     Ok(Farm { capacities, pins })
 }
 
+/// What is tried of a farm.
+#[derive(Clone, Copy)]
+enum Trial {
+    /// Each assignment at all prices, and the spreading of plans at right ones.
+    AllPrices,
+    /// Each assignment at right prices.
+    RightPrices,
+    /// The same, and the spreading of plans at these prices.
+    Spread,
+}
+
+fn try_farm(rt: &impl Abort, alloc: Global, farm: Farm, trial: Trial) -> Result<(), Fail> {
+    let case = Case::new(alloc, farm)?;
+    case.try_as(rt, alloc, trial)
+}
+
+/// Tries all farms of so many servers and pins, and tells how many there are.
+fn try_farms(
+    rt: &impl Abort,
+    alloc: Global,
+    servers: usize,
+    pins: usize,
+    trial: Trial,
+) -> Result<u64, Fail> {
+    let farms = farms(alloc, servers, pins)?;
+    let count = farms.len() as u64;
+    for farm in farms {
+        try_farm(rt, alloc, farm, trial)?;
+    }
+    Ok(count)
+}
+
 // All views of 1 or 2 servers and up to 2 pins, each assignment at all prices.
 #[test]
 fn an_assignment_is_best_where_some_prices_are_accepted(rt: HostRuntime) -> Result<(), Fail> {
-    let alloc = rt.alloc();
     let mut tried = 0u64;
     for servers in 1..3 {
         for pins in 0..3 {
-            for farm in farms(alloc, servers, pins)? {
-                let case = Case::new(alloc, farm)?;
-                case.try_prices(&rt, alloc)?;
-                case.try_spread(&rt, alloc)?;
-                tried = tried.saturating_add(1);
-            }
+            let count = try_farms(&rt, rt.alloc(), servers, pins, Trial::AllPrices)?;
+            tried = tried.saturating_add(count);
         }
     }
     // 2 + 12 + 40 and 3 + 72 + 1110.
@@ -326,13 +389,10 @@ fn an_assignment_is_best_where_some_prices_are_accepted(rt: HostRuntime) -> Resu
 fn prices_of_one_best_assignment_show_all_best_ones_and_no_others(
     rt: HostRuntime,
 ) -> Result<(), Fail> {
-    let alloc = rt.alloc();
     let mut tried = 0u64;
-    for (servers, pins) in [(3, 0), (3, 1), (3, 2), (1, 3), (2, 3)] {
-        for farm in farms(alloc, servers, pins)? {
-            Case::new(alloc, farm)?.try_assignments(&rt, alloc)?;
-            tried = tried.saturating_add(1);
-        }
+    for (servers, pins) in &[(3, 0), (3, 1), (3, 2), (1, 3), (2, 3)] {
+        let count = try_farms(&rt, rt.alloc(), *servers, *pins, Trial::RightPrices)?;
+        tried = tried.saturating_add(count);
     }
     // 4 + 320 + 17904 and 100 + 11680.
     assert_eq!(rt; tried, 30008);
@@ -342,13 +402,10 @@ fn prices_of_one_best_assignment_show_all_best_ones_and_no_others(
 // A seeded sample of the views of 3 servers and 3 to 5 pins.
 #[test]
 fn the_same_holds_of_larger_views_of_a_sample(rt: HostRuntime) -> Result<(), Fail> {
-    let alloc = rt.alloc();
     let mut dice = Dice { state: 20261122 };
     for _ in 0..2000 {
-        let farm = random_farm(alloc, &mut dice)?;
-        let case = Case::new(alloc, farm)?;
-        case.try_assignments(&rt, alloc)?;
-        case.try_spread(&rt, alloc)?;
+        let farm = random_farm(rt.alloc(), &mut dice)?;
+        try_farm(&rt, rt.alloc(), farm, Trial::Spread)?;
     }
     Ok(())
 }
