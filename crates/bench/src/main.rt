@@ -29,16 +29,31 @@ const SMALL: [&str; 6] = [
 
 fn main(rt: HostRuntime) -> Result<()> {
     let words = env::args(&rt)?.skip(1).collect::<Vec<String>>(rt.alloc())?;
-    let words: Vec<&str> = words.iter().map(|word| word.as_str()).collect(rt.alloc())?;
-    if words.first().copied() != Some("all-small") {
-        return measure(&rt, rt.alloc(), &words);
+    run(&rt, rt.alloc(), &words)
+}
+
+fn run(rt: &impl Runtime, alloc: Global, words: &[String]) -> Result<()> {
+    if words
+        .first()
+        .is_some_and(|word| word.as_str() == "all-small")
+    {
+        return measure_all(rt, alloc);
     }
-    for line in SMALL {
+    let words: Vec<&str> = words.iter().map(|word| word.as_str()).collect(alloc)?;
+    measure(rt, alloc, &words)
+}
+
+fn measure_all(rt: &impl Runtime, alloc: Global) -> Result<()> {
+    for line in &SMALL {
         println!(rt; "== {line}")?;
-        let words: Vec<&str> = line.split_whitespace().collect(rt.alloc())?;
-        measure(&rt, rt.alloc(), &words)?;
+        measure_line(rt, alloc, line)?;
     }
     Ok(())
+}
+
+fn measure_line(rt: &impl Runtime, alloc: Global, line: &str) -> Result<()> {
+    let words: Vec<&str> = line.split_whitespace().collect(alloc)?;
+    measure(rt, alloc, &words)
 }
 
 /// Takes the measurement that the first word names.

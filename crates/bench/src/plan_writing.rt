@@ -4,7 +4,7 @@
 //! the plan was read from; rows, bytes and microseconds go to standard error.
 
 use anyhow::Result;
-use dual_cert::{read_plan, write_plan};
+use dual_cert::{Plan, read_plan, write_plan};
 use lb_types::Counted;
 use std::alloc::Global;
 use std::io::{BufWriter, Write};
@@ -20,36 +20,49 @@ pub(crate) fn run(rt: &impl Runtime, alloc: Global, words: &[&str]) -> Result<()
     };
     let text = plan_text(alloc, rows)?;
     let plan = read_plan(alloc, text.as_bytes())?;
+    measure(rt, alloc, &plan, text.as_bytes())
+}
+
+/// Writes the plan, which was read from this text.
+fn measure(rt: &impl Runtime, alloc: Global, plan: &Plan, text: &[u8]) -> Result<()> {
     let mut bytes = Vec::with_capacity(alloc, text.len())?;
-    let mut out = Counted::new(BufWriter::new(alloc, &mut bytes)?);
-    let start = Instant::now(rt)?;
-    write_plan(&plan, &mut out)?;
-    out.flush()?;
-    let time = start.elapsed(rt)?;
-    drop(out);
+    let micros = write(rt, alloc, plan, &mut bytes)?;
     let rows = plan.rows().len();
-    let micros = time.as_micros();
     eprintln!(rt; "{rows} rows, {} bytes: {micros} us", bytes.len())?;
-    let is_same = bytes.as_slice() == text.as_bytes();
+    let is_same = bytes.as_slice() == text;
     println!(rt; "{rows} rows, as they were read: {is_same}")?;
     Ok(())
+}
+
+/// Writes the plan, in so many microseconds.
+fn write(rt: &impl Runtime, alloc: Global, plan: &Plan, bytes: &mut Vec<u8>) -> Result<u128> {
+    let mut out = Counted::new(BufWriter::new(alloc, bytes)?);
+    let start = Instant::now(rt)?;
+    write_plan(plan, &mut out)?;
+    out.flush()?;
+    Ok(start.elapsed(rt)?.as_micros())
 }
 
 /// The text of a plan of so many rows, at most: pins of 129 places that may be at two servers each.
 fn plan_text(alloc: Global, rows: u64) -> Result<String> {
     let mut text = String::from_str(alloc, "stickyplan 1\nversion 1\n")?;
+    push_lines(alloc, &mut text, rows)?;
+    Ok(text)
+}
+
+fn push_lines(alloc: Global, text: &mut String, rows: u64) -> Result<()> {
     for server in 0..SERVERS {
         let line = format!(in alloc; "server s{server} cap 1000000 price 0\n")?;
         text.push_str(&line)?;
     }
     let mut left = rows;
-    push_rows(alloc, &mut text, "-", &mut left)?;
+    push_rows(alloc, text, "-", &mut left)?;
     for place in 0..SERVERS {
         let place = format!(in alloc; "s{place}")?;
-        push_rows(alloc, &mut text, &place, &mut left)?;
+        push_rows(alloc, text, &place, &mut left)?;
     }
     text.push_str("end\n")?;
-    Ok(text)
+    Ok(())
 }
 
 /// Rows of pins at one place, a row for each pair of servers.

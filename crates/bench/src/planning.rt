@@ -11,7 +11,7 @@ mod farm;
 use crate::planning::farm::Farm;
 use anyhow::Result;
 use cert_check::check;
-use dual_cert::{Sheet, read_plan, read_sheet, write_plan};
+use dual_cert::{Plan, Sheet, read_plan, read_sheet, write_plan};
 use flow_planner::plan;
 use lb_types::Counted;
 use std::alloc::Global;
@@ -32,29 +32,57 @@ pub(crate) fn run(rt: &impl Runtime, alloc: Global, words: &[&str]) -> Result<()
         "{} servers, {} groups, {} pins",
         farm.servers, farm.groups, farm.pins
     )?;
+    measure(rt, alloc, &farm, text.as_bytes())
+}
+
+/// Plans what the text of the farm's sheet asks for, and tells what came of it.
+fn measure(rt: &impl Runtime, alloc: Global, farm: &Farm, text: &[u8]) -> Result<()> {
     let mut bytes = Vec::with_capacity(alloc, text.len())?;
-    let work = make_plan(rt, alloc, text.as_bytes(), &mut bytes)?;
-    tell_work(rt, &farm, work)?;
-    let sheet = read_sheet(alloc, text.as_bytes())?;
-    tell_verdict(rt, alloc, &farm, &sheet, &bytes)
+    let work = make_plan(rt, alloc, text, &mut bytes)?;
+    tell_work(rt, farm, work)?;
+    judge(rt, alloc, farm, text, &bytes)
+}
+
+/// Tells whether the second text is that of a plan for the sheet of the first one.
+fn judge(rt: &impl Runtime, alloc: Global, farm: &Farm, sheet: &[u8], text: &[u8]) -> Result<()> {
+    let sheet = read_sheet(alloc, sheet)?;
+    let start = Instant::now(rt)?;
+    let plan = read_plan(alloc, text)?;
+    tell_verdict(rt, farm, &sheet, &plan, start)
 }
 
 /// Writes the text of a plan for the sheet that the text spells.
 fn make_plan(rt: &impl Runtime, alloc: Global, text: &[u8], bytes: &mut Vec<u8>) -> Result<Work> {
     let start = Instant::now(rt)?;
     let sheet = read_sheet(alloc, text)?;
-    let read = start.elapsed(rt)?;
-    let planned = plan(alloc, &sheet)?;
-    let found = start.elapsed(rt)?;
-    let mut out = Counted::new(bytes);
-    write_plan(planned.plan(), &mut out)?;
-    let written = start.elapsed(rt)?;
-    let (read, found, written) = (read.as_micros(), found.as_micros(), written.as_micros());
+    let read = start.elapsed(rt)?.as_micros();
+    plan_sheet(rt, alloc, &sheet, start, read, bytes)
+}
+
+/// Writes the text of a plan for the sheet, which was read in so many microseconds from the start.
+fn plan_sheet(
+    rt: &impl Runtime,
+    alloc: Global,
+    sheet: &Sheet,
+    start: Instant,
+    read: u128,
+    bytes: &mut Vec<u8>,
+) -> Result<Work> {
+    let planned = plan(alloc, sheet)?;
+    let found = start.elapsed(rt)?.as_micros();
+    write(planned.plan(), bytes)?;
+    let written = start.elapsed(rt)?.as_micros();
     eprintln!(rt; "microseconds from the start: read {read}, planned {found}, written {written}")?;
     Ok(Work {
         pushes: planned.pushes(),
         looks: planned.looks(),
     })
+}
+
+fn write(plan: &Plan, bytes: &mut Vec<u8>) -> Result<()> {
+    let mut out = Counted::new(bytes);
+    write_plan(plan, &mut out)?;
+    Ok(())
 }
 
 /// Tells how much work it was, and whether it is within what is proved: a push a pin, and a look for each group and each two
@@ -76,17 +104,15 @@ fn tell_work(rt: &impl Runtime, farm: &Farm, work: Work) -> Result<()> {
     Ok(())
 }
 
-/// Tells whether the text is that of a plan for so many pins that the checker accepts for the sheet.
+/// Tells whether the plan, whose text is read from the start on, is one for so many pins that the checker accepts for the sheet.
 fn tell_verdict(
     rt: &impl Runtime,
-    alloc: Global,
     farm: &Farm,
     sheet: &Sheet,
-    text: &[u8],
+    plan: &Plan,
+    start: Instant,
 ) -> Result<()> {
-    let start = Instant::now(rt)?;
-    let plan = read_plan(alloc, text)?;
-    let verdict = check(sheet, &plan);
+    let verdict = check(sheet, plan);
     let checked = start.elapsed(rt)?;
     eprintln!(rt;
         "microseconds for the check of the text: {}",

@@ -39,8 +39,8 @@ const PARTS: [&str; 8] = [
 pub(crate) fn run(rt: &impl Runtime, alloc: Global, words: &[&str]) -> Result<()> {
     let times: u32 = words.first().context("how often?")?.parse()?;
     let what = words.get(1).copied();
-    for part in PARTS {
-        if what.unwrap_or(part) == part {
+    for part in &PARTS {
+        if what.unwrap_or(part) == *part {
             relay_part(rt, alloc, part, times)?;
         }
     }
@@ -69,12 +69,21 @@ fn relay_heads(alloc: Global, head: &[u8], times: u32) -> Result<u64> {
     let mut room = [0; HEAD_ROOM];
     let mut sent = 0;
     for _ in 0..times {
-        let mut wire = ScriptedWire::new(alloc, head, Script::SMOOTH);
-        let read = read_head(alloc, &mut wire, &mut room, client)?;
-        let text = rewrite(alloc, &read.head(), true)?;
-        sent = u64::saturating_add(sent, text.len() as u64);
+        sent = u64::saturating_add(sent, relay_head(alloc, head, &mut room, client)?);
     }
     Ok(sent)
+}
+
+fn relay_head(
+    alloc: Global,
+    head: &[u8],
+    room: &mut [u8; HEAD_ROOM],
+    client: Ipv4Addr,
+) -> Result<u64> {
+    let mut wire = ScriptedWire::new(alloc, head, Script::SMOOTH);
+    let read = read_head(alloc, &mut wire, room, client)?;
+    let text = rewrite(alloc, &read.head(), true)?;
+    Ok(text.len() as u64)
 }
 
 /// A head of 100 fields, of which the first names 7901 options and the others are none of them.
@@ -94,12 +103,16 @@ fn hostile(alloc: Global) -> Result<Vec<u8>, AllocError> {
 fn send_bodies(alloc: Global, kind: BodyKind, body: &[u8], times: u32) -> Result<u64> {
     let mut sent = 0;
     for _ in 0..times {
-        let mut client = ScriptedWire::new(alloc, body, Script::SMOOTH);
-        let mut server = ScriptedWire::new(alloc, b"", Script::SMOOTH);
-        send_body(kind, b"", &mut client, &mut server)?;
-        sent = u64::saturating_add(sent, server.written().len() as u64);
+        sent = u64::saturating_add(sent, send_one(alloc, kind, body)?);
     }
     Ok(sent)
+}
+
+fn send_one(alloc: Global, kind: BodyKind, body: &[u8]) -> Result<u64> {
+    let mut client = ScriptedWire::new(alloc, body, Script::SMOOTH);
+    let mut server = ScriptedWire::new(alloc, b"", Script::SMOOTH);
+    send_body(kind, b"", &mut client, &mut server)?;
+    Ok(server.written().len() as u64)
 }
 
 /// The bytes that go out for so many bodies in chunks of this size.
@@ -118,11 +131,15 @@ fn send_chunks(alloc: Global, size: usize, size_line: &[u8], times: u32) -> Resu
 fn copy_responses(alloc: Global, response: &[u8], times: u32) -> Result<u64> {
     let mut sent = 0;
     for _ in 0..times {
-        let mut server = ScriptedWire::new(alloc, response, Script::SMOOTH);
-        let mut client = ScriptedWire::new(alloc, b"", Script::SMOOTH);
-        sent = u64::saturating_add(sent, copy_back(&mut server, &mut client)?);
+        sent = u64::saturating_add(sent, copy_one(alloc, response)?);
     }
     Ok(sent)
+}
+
+fn copy_one(alloc: Global, response: &[u8]) -> Result<u64> {
+    let mut server = ScriptedWire::new(alloc, response, Script::SMOOTH);
+    let mut client = ScriptedWire::new(alloc, b"", Script::SMOOTH);
+    Ok(copy_back(&mut server, &mut client)?)
 }
 
 /// A body of so many bytes.

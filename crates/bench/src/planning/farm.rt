@@ -3,7 +3,7 @@
 
 use crate::planning::dice::Dice;
 use anyhow::{Context, Result, bail};
-use lb_types::{ServerId, ServerSet};
+use lb_types::{Place, ServerId, ServerSet};
 use lb_types_pins::PinKind;
 use std::alloc::{AllocError, Global};
 
@@ -46,13 +46,28 @@ impl Farm {
     pub(crate) fn text(&self, alloc: Global) -> Result<String> {
         let mut dice = Dice::new(u64::from(self.seed));
         let kinds = self.kinds(alloc, &mut dice)?;
-        let has_costs = kinds.iter().any(|kind| kind.cost != 1);
-        let format = if has_costs { 2 } else { 1 };
-        let mut text = format!(in alloc; "stickysheet {format}\nversion 1\n")?;
-        self.add_servers(alloc, &mut text, &mut dice)?;
-        self.add_groups(alloc, &mut text, &kinds, has_costs, &mut dice)?;
-        text.push_str("end\n")?;
+        let mut text = String::new(alloc);
+        self.add_sheet(alloc, &mut text, &kinds, &mut dice)?;
         Ok(text)
+    }
+
+    fn add_sheet(
+        &self,
+        alloc: Global,
+        text: &mut String,
+        kinds: &[PinKind],
+        dice: &mut Dice,
+    ) -> Result<()> {
+        let has_costs = kinds.iter().any(|kind| kind.cost != 1);
+        text.push_str(if has_costs {
+            "stickysheet 2\nversion 1\n"
+        } else {
+            "stickysheet 1\nversion 1\n"
+        })?;
+        self.add_servers(alloc, text, dice)?;
+        self.add_groups(alloc, text, kinds, has_costs, dice)?;
+        text.push_str("end\n")?;
+        Ok(())
     }
 
     /// As many kinds of pins as there are to be groups, all unlike, in rising order.
@@ -114,8 +129,8 @@ impl Farm {
             .unwrap_or(0)
     }
 
-    /// The lines of the servers. Each has from 7 to 13 shares of the room.
-    fn add_servers(&self, alloc: Global, text: &mut String, dice: &mut Dice) -> Result<()> {
+    /// From 70 to 130 shares of the room for each server that is on.
+    fn shares(&self, alloc: Global, dice: &mut Dice) -> Result<Vec<u32>, AllocError> {
         let mut shares = Vec::new(alloc);
         for server in 0..self.servers {
             let share = if self.is_off(server) {
@@ -125,6 +140,12 @@ impl Farm {
             };
             shares.push(share)?;
         }
+        Ok(shares)
+    }
+
+    /// The lines of the servers.
+    fn add_servers(&self, alloc: Global, text: &mut String, dice: &mut Dice) -> Result<()> {
+        let shares = self.shares(alloc, dice)?;
         let room = u64::from(self.pins).saturating_mul(u64::from(self.room)) / 100;
         let all = shares
             .iter()
@@ -164,11 +185,7 @@ impl Farm {
         count: u32,
         has_costs: bool,
     ) -> Result<()> {
-        text.push_str(&format!(in alloc; "group {count} ")?)?;
-        match kind.place {
-            Some(server) => text.push_str(&format!(in alloc; "s{} ", server.index())?)?,
-            None => text.push_str("- ")?,
-        }
+        text.push_str(&count_and_place(alloc, count, kind.place)?)?;
         self.add_set(alloc, text, kind.permitted)?;
         if has_costs {
             text.push_str(&format!(in alloc; " {}", kind.cost)?)?;
@@ -217,6 +234,13 @@ fn add_kind(
 
 fn server_id(number: u32) -> ServerId {
     ServerId::new((number % 128) as u8)
+}
+
+fn count_and_place(alloc: Global, count: u32, place: Place) -> Result<String, AllocError> {
+    match place {
+        Some(server) => format!(in alloc; "group {count} s{} ", server.index()),
+        None => format!(in alloc; "group {count} - "),
+    }
 }
 
 /// The line of a server that has so many of all shares of the room, and is off where it has none.

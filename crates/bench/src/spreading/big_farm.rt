@@ -19,13 +19,14 @@ const USABLE: u32 = 120;
 
 pub(crate) fn big_view(alloc: Global, pins: u32) -> Result<Option<View>, AllocError> {
     let mut usable = ServerSet::empty();
-    let mut capacities = Vec::new(alloc);
-    for server in 0..SERVERS {
-        capacities.push(pins)?;
-        if server >= LOST {
-            usable = usable.with(ServerId::new(server));
-        }
+    for server in LOST..SERVERS {
+        usable = usable.with(ServerId::new(server));
     }
+    let plain = plain_pins(alloc, pins)?;
+    numbered_view(alloc, usable, &[pins; SERVERS as usize], &plain)
+}
+
+fn plain_pins(alloc: Global, pins: u32) -> Result<Vec<PlainPin>, AllocError> {
     let mut plain = Vec::new(alloc);
     for number in 0..pins {
         let half = number / 2;
@@ -40,7 +41,7 @@ pub(crate) fn big_view(alloc: Global, pins: u32) -> Result<Option<View>, AllocEr
             cost: 1,
         })?;
     }
-    numbered_view(alloc, usable, &capacities, &plain)
+    Ok(plain)
 }
 
 /// The plan for the view of so many pins, at prices of 0: going anywhere costs each pin the same.
@@ -57,14 +58,37 @@ pub(crate) fn big_plan(alloc: Global, view: &View, pins: u32) -> Result<Plan> {
 }
 
 fn plan_text(alloc: Global, names: &[&str], pins: u32) -> Result<String, AllocError> {
-    let (lost, usable) = names.split_at(names.len().min(usize::from(LOST)));
     let mut text = String::from_str(alloc, "stickyplan 1\nversion 0\n")?;
+    let (lost, usable) = names.split_at(names.len().min(usize::from(LOST)));
+    add_servers(alloc, &mut text, lost, usable, pins)?;
+    add_rows(alloc, &mut text, lost, usable, pins)?;
+    text.push_str("end\n")?;
+    Ok(text)
+}
+
+fn add_servers(
+    alloc: Global,
+    text: &mut String,
+    lost: &[&str],
+    usable: &[&str],
+    pins: u32,
+) -> Result<(), AllocError> {
     for name in lost {
         text.push_str(&format!(in alloc; "server {name} off\n")?)?;
     }
     for name in usable {
         text.push_str(&format!(in alloc; "server {name} cap {pins} price 0\n")?)?;
     }
+    Ok(())
+}
+
+fn add_rows(
+    alloc: Global,
+    text: &mut String,
+    lost: &[&str],
+    usable: &[&str],
+    pins: u32,
+) -> Result<(), AllocError> {
     let set = joined(alloc, usable)?;
     for (place, name) in lost.iter().enumerate() {
         let leaving = share(pins - pins / 2, place, u32::from(LOST));
@@ -77,8 +101,7 @@ fn plan_text(alloc: Global, names: &[&str], pins: u32) -> Result<String, AllocEr
         let staying = share(pins / 2, place, u32::from(KEPT));
         text.push_str(&row_text(alloc, staying, name, name, &set)?)?;
     }
-    text.push_str("end\n")?;
-    Ok(text)
+    Ok(())
 }
 
 fn joined(alloc: Global, names: &[&str]) -> Result<String, AllocError> {
