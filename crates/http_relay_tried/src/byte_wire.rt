@@ -4,25 +4,9 @@ ghost use Rattle.std.specs.Prelude.{◌≡◌, ◌^◌, None, false};
 ghost use Rattle.http_relay_wire.specs.Faults.{no_faults};
 ghost use Rattle.http_relay_wire.specs.Wires.{Reading};
 
+use http_relay_tried_rounds::Peer;
 use http_relay_wire::{FaultCounts, Wire, WireFault};
 use std::alloc::Global;
-
-/// How a peer behaves.
-#[derive(Clone, Copy, Debug, PartialEq, Eq)]
-pub(crate) struct Peer {
-    /// How many bytes come of what it would send.
-    pub(crate) sends: usize,
-    /// How a read behind those fails. Without a fault the peer ends there.
-    pub(crate) then: Option<WireFault>,
-    /// How many bytes it takes.
-    pub(crate) takes: usize,
-    /// How a write behind those fails.
-    pub(crate) refuses: WireFault,
-    /// The most bytes that a read gives, in turn; 0 counts as 1.
-    pub(crate) pieces: (usize, usize),
-    /// The most bytes that a write takes; 0 counts as 1.
-    pub(crate) most_written: usize,
-}
 
 /// A wire to a peer that sends fixed bytes. What is written to it is kept. It tells no proof of its bytes, so that it may be plain.
 #[derive(Debug, Drop)]

@@ -1,11 +1,9 @@
 //! What the profile says of a head.
 
 use crate::byte_wire::front;
-use crate::head::{Head, Name, Says, Word, version_text};
-use crate::round::Round;
-use crate::site::Place;
 use http_relay_head::HEAD_ROOM;
 use http_relay_serve::{Cause, DropCause, Outcome};
+use http_relay_tried_rounds::{Head, Name, Place, Round, Says, Word, version_text};
 use http_relay_wire::WireFault;
 use lb_acl::{KeySample, TableType, Version};
 use pin_set::{KeyText, PinKey};
@@ -139,18 +137,27 @@ pub(crate) fn forwarded(
     round: &Round,
     place: &Place,
 ) -> Result<Vec<u8>, AllocError> {
-    let head = &round.head;
     let mut text = Vec::new(alloc);
-    for word in [
-        head.method,
-        " ",
-        head.target,
-        " ",
-        version_text(head.version),
-        "\r\n",
-    ] {
+    add_lines(&round.head, &mut text)?;
+    text.extend_from_slice(b"Connection: close\r\n")?;
+    if place.forwards_address {
+        add_words(&["X-Forwarded-For: ", round.source.text, "\r\n"], &mut text)?;
+    }
+    text.extend_from_slice(b"\r\n")?;
+    Ok(text)
+}
+
+fn add_words(words: &[&str], text: &mut Vec<u8>) -> Result<(), AllocError> {
+    for word in words {
         text.extend_from_slice(word.as_bytes())?;
     }
+    Ok(())
+}
+
+/// Adds the first line, and the lines that concern the server.
+fn add_lines(head: &Head, text: &mut Vec<u8>) -> Result<(), AllocError> {
+    let version = version_text(head.version);
+    add_words(&[head.method, " ", head.target, " ", version, "\r\n"], text)?;
     for line in &head.lines {
         let is_ours = line.name == Name::Connection || line.name == Name::Expect;
         if !is_ours && !is_option(head, line.name) {
@@ -160,14 +167,7 @@ pub(crate) fn forwarded(
             text.extend_from_slice(b"\r\n")?;
         }
     }
-    text.extend_from_slice(b"Connection: close\r\n")?;
-    if place.forwards_address {
-        text.extend_from_slice(b"X-Forwarded-For: ")?;
-        text.extend_from_slice(round.source.text.as_bytes())?;
-        text.extend_from_slice(b"\r\n")?;
-    }
-    text.extend_from_slice(b"\r\n")?;
-    Ok(text)
+    Ok(())
 }
 
 /// The key under which the request's pin stands.

@@ -2,9 +2,9 @@
 
 use crate::head_model::{Kind, kind_of, waits};
 use crate::owed::Owed;
-use crate::round::Round;
 use crate::serving::Served;
 use http_relay_serve::{Cause, DropCause, Outcome};
+use http_relay_tried_rounds::Round;
 use lb_desk_model::Event;
 use std::alloc::{AllocError, Global};
 

@@ -1,7 +1,6 @@
 //! Rounds that are served otherwise than the model was told, so that it is seen whether the comparison sees it.
 
-use crate::round::Round;
-use crate::site::Place;
+use http_relay_tried_rounds::{Place, Round};
 use lb_acl::{KeyLen, TableType};
 use std::net::Ipv4Addr;
 

@@ -2,10 +2,10 @@
 
 use crate::byte_wire::ByteWire;
 use crate::owed::{Owed, Way};
-use crate::round::Round;
 use crate::tried_dialer::TriedDialer;
 use http_relay_head::HEAD_ROOM;
 use http_relay_serve::{Client, Outcome, Worker, serve_one};
+use http_relay_tried_rounds::Round;
 use lb_desk_ports::{Filed, OpenGate, PortScript, ScriptedClock, ScriptedPort, Shut};
 use std::alloc::{AllocError, Global};
 
@@ -53,6 +53,9 @@ pub(crate) fn serve<'a, R>(
     script: &'a PortScript<'a>,
     room: &mut [u8; HEAD_ROOM],
 ) -> Result<Served<'a>, AllocError> {
+    let mut ports = Vec::new(alloc);
+    ports.push(ScriptedPort::new(alloc, script))?;
+    ports.push(ScriptedPort::new(alloc, script))?;
     let mut worker = Worker {
         clock: ScriptedClock::new(alloc, round.start),
         gate: OpenGate,
@@ -62,9 +65,6 @@ pub(crate) fn serve<'a, R>(
         wire: ByteWire::new(alloc, &round.input, round.client),
         source: round.address,
     };
-    let mut ports = Vec::new(alloc);
-    ports.push(ScriptedPort::new(alloc, script))?;
-    ports.push(ScriptedPort::new(alloc, script))?;
     let outcome = serve_one(
         rt,
         alloc,

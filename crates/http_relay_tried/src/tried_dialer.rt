@@ -2,8 +2,9 @@
 
 ghost use Rattle.std.specs.Prelude.{None};
 
-use crate::byte_wire::{ByteWire, Peer};
+use crate::byte_wire::ByteWire;
 use http_relay_dial::{Dialer, Endpoint, Limits};
+use http_relay_tried_rounds::Peer;
 use http_relay_wire::WireFault;
 use std::alloc::Global;
 

@@ -5,7 +5,7 @@ use std::alloc::{AllocError, Global};
 
 /// The names of the fields.
 #[derive(Clone, Copy, Debug, PartialEq, Eq)]
-pub(crate) enum Name {
+pub enum Name {
     Host,
     Connection,
     Expect,
@@ -42,7 +42,7 @@ impl Name {
 
 /// What a line says beside its bytes.
 #[derive(Debug, Drop)]
-pub(crate) enum Says {
+pub enum Says {
     /// Nothing that matters here.
     Nothing,
     /// These fields concern this connection alone.
@@ -59,35 +59,35 @@ pub(crate) enum Says {
 
 /// A key as a request spells it.
 #[derive(Clone, Copy, Debug, PartialEq, Eq)]
-pub(crate) struct Word {
-    pub(crate) text: &'static str,
+pub struct Word {
+    pub text: &'static str,
     /// The address that it is, if it is one.
-    pub(crate) address: Option<(u8, u8, u8, u8)>,
+    pub address: Option<(u8, u8, u8, u8)>,
 }
 
 /// A line of a field.
 #[derive(Debug, Drop)]
-pub(crate) struct Line {
-    pub(crate) name: Name,
-    pub(crate) spelled: &'static str,
+pub struct Line {
+    pub name: Name,
+    pub spelled: &'static str,
     /// What stands between the colon and the value.
-    pub(crate) before: &'static str,
-    pub(crate) value: Vec<u8>,
+    pub before: &'static str,
+    pub value: Vec<u8>,
     /// The blanks behind the value, and the end of the line.
-    pub(crate) behind: &'static str,
-    pub(crate) says: Says,
+    pub behind: &'static str,
+    pub says: Says,
 }
 
 /// The head of a request.
 #[derive(Debug, Drop)]
-pub(crate) struct Head {
-    pub(crate) empty_lines: &'static str,
-    pub(crate) method: &'static str,
-    pub(crate) target: &'static str,
-    pub(crate) version: Version,
+pub struct Head {
+    pub empty_lines: &'static str,
+    pub method: &'static str,
+    pub target: &'static str,
+    pub version: Version,
     /// The end of the first line and of the last.
-    pub(crate) line_end: &'static str,
-    pub(crate) lines: Vec<Line>,
+    pub line_end: &'static str,
+    pub lines: Vec<Line>,
 }
 
 /// The most fields that a head may have.
@@ -95,10 +95,10 @@ pub(crate) const MOST_FIELDS: usize = 100;
 
 /// A head as its client sends it.
 #[derive(Debug, Drop)]
-pub(crate) struct HeadText {
-    pub(crate) bytes: Vec<u8>,
+pub struct HeadText {
+    pub bytes: Vec<u8>,
     /// Where the first field stands that is one too many, if there is one.
-    pub(crate) too_many_at: Option<usize>,
+    pub too_many_at: Option<usize>,
 }
 
 impl Head {
@@ -134,7 +134,7 @@ impl Line {
 }
 
 /// The version as it is spelled.
-pub(crate) fn version_text(version: Version) -> &'static str {
+pub fn version_text(version: Version) -> &'static str {
     match version {
         Version::Http10 => "HTTP/1.0",
         Version::Http11 => "HTTP/1.1",

@@ -1,34 +1,6 @@
-//! A chunked body in its parts, each of which knows whether it is good.
+//! What the profile says of a chunked body.
 
-/// What a part is.
-#[derive(Clone, Copy, Debug, PartialEq, Eq)]
-pub(crate) enum PartKind {
-    /// The size line of a chunk.
-    Size,
-    /// The data of a chunk.
-    Content,
-    /// The line end behind the data of a chunk.
-    ContentEnd,
-    /// The trailer with its empty line.
-    Trailer,
-}
-
-/// Where a bad part shows that no more bytes can make it good.
-#[derive(Clone, Copy, Debug, PartialEq, Eq)]
-pub(crate) struct Bad {
-    /// With so many of its bytes it shows, at the earliest.
-    pub(crate) may: usize,
-    /// With so many it shows, whatever was seen before.
-    pub(crate) must: usize,
-}
-
-/// A part of a chunked body.
-#[derive(Debug, Drop)]
-pub(crate) struct Part {
-    pub(crate) kind: PartKind,
-    pub(crate) text: Vec<u8>,
-    pub(crate) bad: Option<Bad>,
-}
+use http_relay_tried_rounds::{Bad, Part, PartKind};
 
 /// How far a body can be passed on.
 #[derive(Clone, Copy, Debug, PartialEq, Eq)]

@@ -2,7 +2,7 @@
 
 ghost use Rattle.std.specs.Prelude.{◌≡◌, ◌==◌, Some, None, IfOk, if◌then◌else◌};
 ghost use Rattle.lb_acl.specs.Keys.{IsKeyOf};
-ghost use Rattle.http_relay_tried.specs.Sites.{backend_for};
+ghost use Rattle.http_relay_tried_rounds.specs.Sites.{backend_for};
 
 use http_relay_serve::Routing;
 use http_relay_talk::Target;
@@ -12,17 +12,17 @@ use lb_types::{Moment, ServerId};
 use std::alloc::{AllocError, Global};
 
 /// What a move of a pin costs at each backend.
-pub(crate) const COST: u16 = 3;
+pub const COST: u16 = 3;
 
 /// A backend.
 #[derive(Debug, Drop)]
-pub(crate) struct Place {
+pub struct Place {
     /// It takes heads.
-    pub(crate) takes: bool,
+    pub takes: bool,
     /// How its server is reached.
-    pub(crate) target: Target,
-    pub(crate) forwards_address: bool,
-    pub(crate) pattern: StickOn,
+    pub target: Target,
+    pub forwards_address: bool,
+    pub pattern: StickOn,
 }
 
 impl Place {
@@ -53,14 +53,14 @@ impl Place {
 
 /// A configuration. The first backend takes the heads of HTTP/1.0, the second those of HTTP/1.1.
 #[derive(Debug, Drop)]
-pub(crate) struct Site {
-    pub(crate) first: Place,
-    pub(crate) second: Place,
+pub struct Site {
+    pub first: Place,
+    pub second: Place,
 }
 
 impl Site {
     /// The backend that heads of this version are for.
-    pub(crate) fn place_for(&self, version: Version) -> &Place {
+    pub fn place_for(&self, version: Version) -> &Place {
         match version {
             Version::Http10 => &self.first,
             Version::Http11 => &self.second,

@@ -1,11 +1,11 @@
 //! Rounds that are made up.
 
 use crate::body::Part;
-use crate::byte_wire::Peer;
 use crate::dice::Dice;
-use crate::draw_body::{draw_bytes, draw_parts};
+use crate::draw_body::{add_bytes, add_parts};
 use crate::draw_head::{Framing, draw_framing, draw_head, stretch};
 use crate::head::{Head, HeadText, Word};
+use crate::peer::Peer;
 use crate::round::{Desk, Round};
 use crate::site::{Place, Site};
 use http_relay_dial::{Endpoint, Limits};
@@ -23,42 +23,93 @@ use std::net::Ipv4Addr;
 const LONGEST: u64 = 999_999_999_999_999_999;
 
 /// The round of this number.
-pub(crate) fn draw_round(alloc: Global, number: u64) -> Result<Round, AllocError> {
+pub fn draw_round(alloc: Global, number: u64) -> Result<Round, AllocError> {
     let dice = &mut Dice::new(number);
-    let framing = draw_framing(dice);
-    let length = draw_length(dice);
-    let mut head = draw_head(alloc, dice, framing, length)?;
-    let (text, spoilt_at) = draw_text(alloc, dice, &mut head)?;
-    let parts = if framing == Framing::Chunks {
-        draw_parts(alloc, dice)?
-    } else {
-        Vec::new(alloc)
-    };
-    let input = draw_input(alloc, dice, &text.bytes, &parts, length)?;
+    let request = draw_request(alloc, dice)?;
     let response = draw_response(alloc, dice)?;
     let (source, address) = draw_source(dice);
     let site = draw_site(alloc, dice)?;
-    let sizes = Sizes {
-        head: text.bytes.len(),
-        behind: input.len().saturating_sub(text.bytes.len()),
-        response: response.len(),
-        is_long: input.len() > 2000 || response.len() > 2000,
-    };
-    Ok(Round {
-        source,
-        address,
-        start: dice.roll(100_000) as u64,
-        client: draw_client(dice, sizes),
-        desk: draw_desk(alloc, dice, &head, &site)?,
-        dial: draw_dial(dice, sizes),
-        site,
+    let sizes = request.sizes(&response);
+    let start = dice.roll(100_000) as u64;
+    let client = draw_client(dice, sizes);
+    let desk = draw_desk(alloc, dice, &request.head, &site)?;
+    let dial = draw_dial(dice, sizes);
+    let Request {
         head,
         text,
         spoilt_at,
         parts,
         input,
+    } = request;
+    Ok(Round {
+        site,
+        source,
+        address,
+        start,
+        head,
+        text,
+        spoilt_at,
+        parts,
+        input,
+        client,
+        desk,
+        dial,
         response,
     })
+}
+
+/// What a client sends, as a round has it.
+#[derive(Drop)]
+struct Request {
+    head: Head,
+    text: HeadText,
+    spoilt_at: Option<usize>,
+    parts: Vec<Part>,
+    input: Vec<u8>,
+}
+
+impl Request {
+    fn sizes(&self, response: &[u8]) -> Sizes {
+        let head = self.text.bytes.len();
+        Sizes {
+            head,
+            behind: self.input.len().saturating_sub(head),
+            response: response.len(),
+            is_long: self.input.len() > 2000 || response.len() > 2000,
+        }
+    }
+}
+
+fn draw_request(alloc: Global, dice: &mut Dice) -> Result<Request, AllocError> {
+    let framing = draw_framing(dice);
+    let length = draw_length(dice);
+    let mut head = draw_head(alloc, dice, framing, length)?;
+    let (text, spoilt_at) = draw_text(alloc, dice, &mut head)?;
+    let (parts, input) = draw_body(alloc, dice, &text.bytes, framing, length)?;
+    Ok(Request {
+        head,
+        text,
+        spoilt_at,
+        parts,
+        input,
+    })
+}
+
+/// The parts of the body, and the head with all that the client sends behind it.
+fn draw_body(
+    alloc: Global,
+    dice: &mut Dice,
+    head: &[u8],
+    framing: Framing,
+    length: u64,
+) -> Result<(Vec<Part>, Vec<u8>), AllocError> {
+    let mut parts = Vec::new(alloc);
+    if framing == Framing::Chunks {
+        add_parts(alloc, dice, &mut parts)?;
+    }
+    let mut input = Vec::from_slice(alloc, head)?;
+    add_body(alloc, dice, &parts, length, &mut input)?;
+    Ok((parts, input))
 }
 
 /// The head as its client sends it: now and then with as many bytes or fields as it may have, and now and then with a byte in it that
@@ -93,15 +144,14 @@ fn draw_length(dice: &mut Dice) -> u64 {
     }
 }
 
-/// What a client sends: its head, the body, and often a second request behind it.
-fn draw_input(
+/// Adds the body, and often a second request behind it.
+fn add_body(
     alloc: Global,
     dice: &mut Dice,
-    head: &[u8],
     parts: &[Part],
     length: u64,
-) -> Result<Vec<u8>, AllocError> {
-    let mut input = Vec::from_slice(alloc, head)?;
+    input: &mut Vec<u8>,
+) -> Result<(), AllocError> {
     for part in parts {
         input.extend_from_slice(&part.text)?;
     }
@@ -111,7 +161,7 @@ fn draw_input(
         } else {
             length as usize % 65536
         };
-        input.extend_from_slice(&draw_bytes(alloc, dice, count)?)?;
+        add_bytes(dice, count, input)?;
     }
     let more = dice.word(&[
         "",
@@ -119,8 +169,7 @@ fn draw_input(
         "0\r\n\r\n",
         "GET /admin HTTP/1.1\r\nHost: x\r\n\r\n",
     ]);
-    input.extend_from_slice(more.as_bytes())?;
-    Ok(input)
+    input.extend_from_slice(more.as_bytes())
 }
 
 /// What a server sends, which nobody reads but the client.
@@ -137,7 +186,7 @@ fn draw_response(alloc: Global, dice: &mut Dice) -> Result<Vec<u8>, AllocError> 
     } else {
         dice.roll(50)
     };
-    response.extend_from_slice(&draw_bytes(alloc, dice, count)?)?;
+    add_bytes(dice, count, &mut response)?;
     Ok(response)
 }
 
@@ -226,16 +275,7 @@ fn draw_desk(alloc: Global, dice: &mut Dice, head: &Head, site: &Site) -> Result
         30..35 => Asked::Served(server, ServedAs::Moved),
         _ => Asked::Served(server, ServedAs::Made),
     };
-    let mut openings = Vec::new(alloc);
-    if dice.is_one_in(6) {
-        for _ in 0..dice.roll(5) {
-            openings.push(ScriptedOpening::Full)?;
-        }
-        openings.push(match dice.roll(4) {
-            0 => ScriptedOpening::NotServing,
-            _ => ScriptedOpening::Opened,
-        })?;
-    }
+    let openings = draw_openings(alloc, dice)?;
     let refused = if dice.is_one_in(2) {
         Refused::Memory
     } else {
@@ -251,6 +291,21 @@ fn draw_desk(alloc: Global, dice: &mut Dice, head: &Head, site: &Site) -> Result
         openings,
         refusing,
     })
+}
+
+/// The answers to requests for a connection, none of them mostly.
+fn draw_openings(alloc: Global, dice: &mut Dice) -> Result<Vec<ScriptedOpening>, AllocError> {
+    let mut openings = Vec::new(alloc);
+    if dice.is_one_in(6) {
+        for _ in 0..dice.roll(5) {
+            openings.push(ScriptedOpening::Full)?;
+        }
+        openings.push(match dice.roll(4) {
+            0 => ScriptedOpening::NotServing,
+            _ => ScriptedOpening::Opened,
+        })?;
+    }
+    Ok(openings)
 }
 
 /// The most bytes of a piece. Where there is much to move, pieces are large, so that a round stays short.

@@ -42,14 +42,7 @@ pub(crate) fn draw_head(
     length: u64,
 ) -> Result<Head, AllocError> {
     let mut lines = Vec::new(alloc);
-    for _ in 0..dice.roll(6) {
-        lines.push(draw_line(alloc, dice)?)?;
-    }
-    let framing = framing_lines(alloc, dice, framing, length)?;
-    for line in framing {
-        let at = dice.roll(lines.len().saturating_add(1));
-        lines.insert(at.min(lines.len()), line)?;
-    }
+    add_lines(alloc, dice, framing, length, &mut lines)?;
     let methods = [
         "GET", "POST", "PUT", "DELETE", "connect", "M-SEARCH", "OPTIONS", "HEAD",
     ];
@@ -72,13 +65,34 @@ pub(crate) fn draw_head(
     })
 }
 
-/// The lines that tell the end of the body.
-fn framing_lines(
+/// Adds up to five lines, and among them those that tell the end of the body.
+fn add_lines(
     alloc: Global,
     dice: &mut Dice,
     framing: Framing,
     length: u64,
-) -> Result<Vec<Line>, AllocError> {
+    lines: &mut Vec<Line>,
+) -> Result<(), AllocError> {
+    for _ in 0..dice.roll(6) {
+        lines.push(draw_line(alloc, dice)?)?;
+    }
+    let mut telling = Vec::new(alloc);
+    add_framing(alloc, dice, framing, length, &mut telling)?;
+    for line in telling {
+        let at = dice.roll(lines.len().saturating_add(1));
+        lines.insert(at.min(lines.len()), line)?;
+    }
+    Ok(())
+}
+
+/// Adds the lines that tell the end of the body.
+fn add_framing(
+    alloc: Global,
+    dice: &mut Dice,
+    framing: Framing,
+    length: u64,
+    lines: &mut Vec<Line>,
+) -> Result<(), AllocError> {
     let (lengths, codings) = match framing {
         Framing::Length => (1, 0),
         Framing::EqualLengths | Framing::OtherLengths => (2, 0),
@@ -87,7 +101,6 @@ fn framing_lines(
         Framing::TwoCodings => (0, 2),
         Framing::Nothing | Framing::NoLength | Framing::OtherCoding => (0, 0),
     };
-    let mut lines = Vec::new(alloc);
     for number in 0..lengths {
         let is_other = framing == Framing::OtherLengths && number > 0;
         let told = if is_other { length ^ 1 } else { length };
@@ -101,7 +114,7 @@ fn framing_lines(
         Framing::OtherCoding => lines.push(other_coding_line(alloc, dice)?)?,
         _ => {}
     }
-    Ok(lines)
+    Ok(())
 }
 
 /// A line whose length is none.
@@ -159,23 +172,27 @@ fn options_line(alloc: Global, dice: &mut Dice) -> Result<Line, AllocError> {
     let mut value = Vec::from_slice(alloc, b"close")?;
     let mut options = Vec::new(alloc);
     for _ in 0..dice.roll(4) {
-        let name = match dice.roll(60) {
-            0 => Name::Host,
-            1 => Name::ContentLength,
-            2 => Name::TransferEncoding,
-            3..10 => Name::ForwardedFor,
-            10..20 => Name::Id,
-            20..25 => Name::Cookie,
-            25..28 => Name::Connection,
-            28..31 => Name::Expect,
-            31..45 => Name::KeepAlive,
-            _ => Name::Trace,
-        };
+        let name = draw_option(dice);
         value.extend_from_slice(dice.word(&[",", ", ", " ,\t", ",,"]).as_bytes())?;
         value.extend_from_slice(spelled(dice, name).as_bytes())?;
         options.push(name)?;
     }
     Ok(line(dice, Name::Connection, value, Says::Options(options)))
+}
+
+fn draw_option(dice: &mut Dice) -> Name {
+    match dice.roll(60) {
+        0 => Name::Host,
+        1 => Name::ContentLength,
+        2 => Name::TransferEncoding,
+        3..10 => Name::ForwardedFor,
+        10..20 => Name::Id,
+        20..25 => Name::Cookie,
+        25..28 => Name::Connection,
+        28..31 => Name::Expect,
+        31..45 => Name::KeepAlive,
+        _ => Name::Trace,
+    }
 }
 
 fn expect_line(alloc: Global, dice: &mut Dice) -> Result<Line, AllocError> {

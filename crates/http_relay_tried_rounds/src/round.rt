@@ -1,8 +1,8 @@
 //! One request and all that it meets.
 
 use crate::body::Part;
-use crate::byte_wire::Peer;
 use crate::head::{Head, HeadText, Word};
+use crate::peer::Peer;
 use crate::site::Site;
 use http_relay_wire::WireFault;
 use lb_desk_ports::{Asked, Refused, ScriptedOpening};
@@ -10,48 +10,48 @@ use std::net::Ipv4Addr;
 
 /// What the desk answers.
 #[derive(Debug, Drop)]
-pub(crate) struct Desk {
+pub struct Desk {
     /// To the request for a server.
-    pub(crate) asked: Asked,
+    pub asked: Asked,
     /// To the requests for a connection, in turn. Those behind the last are opened.
-    pub(crate) openings: Vec<ScriptedOpening>,
+    pub openings: Vec<ScriptedOpening>,
     /// The event that is refused, counted from 0, and how.
-    pub(crate) refusing: Option<(u64, Refused)>,
+    pub refusing: Option<(u64, Refused)>,
 }
 
 /// One request and all that it meets.
 #[derive(Debug, Drop)]
-pub(crate) struct Round {
-    pub(crate) site: Site,
+pub struct Round {
+    pub site: Site,
     /// The client's address, as it is spelled and as it is.
-    pub(crate) source: Word,
-    pub(crate) address: Ipv4Addr,
+    pub source: Word,
+    pub address: Ipv4Addr,
     /// The clock's moment.
-    pub(crate) start: u64,
-    pub(crate) head: Head,
-    pub(crate) text: HeadText,
+    pub start: u64,
+    pub head: Head,
+    pub text: HeadText,
     /// Where a byte of the head was replaced by one that stands in no head.
-    pub(crate) spoilt_at: Option<usize>,
+    pub spoilt_at: Option<usize>,
     /// The parts of the body, if it is a chunked one.
-    pub(crate) parts: Vec<Part>,
+    pub parts: Vec<Part>,
     /// All that the client would send.
-    pub(crate) input: Vec<u8>,
-    pub(crate) client: Peer,
-    pub(crate) desk: Desk,
+    pub input: Vec<u8>,
+    pub client: Peer,
+    pub desk: Desk,
     /// The server, or how a dial fails.
-    pub(crate) dial: Result<Peer, WireFault>,
+    pub dial: Result<Peer, WireFault>,
     /// All that the server would send.
-    pub(crate) response: Vec<u8>,
+    pub response: Vec<u8>,
 }
 
 impl Round {
     /// How many bytes of the client come.
-    pub(crate) fn came(&self) -> usize {
+    pub fn came(&self) -> usize {
         self.client.sends.min(self.input.len())
     }
 
     /// How many bytes of the client come behind its head.
-    pub(crate) fn came_behind(&self) -> usize {
+    pub fn came_behind(&self) -> usize {
         self.came().saturating_sub(self.text.bytes.len())
     }
 }

@@ -13,34 +13,43 @@ const MOST_TRAILER_BYTES: usize = 8192;
 /// The most fields of a trailer.
 const MOST_TRAILER_FIELDS: usize = 100;
 
-/// The parts of a chunked body, of which the last may be bad.
-pub(crate) fn draw_parts(alloc: Global, dice: &mut Dice) -> Result<Vec<Part>, AllocError> {
-    let mut parts = Vec::new(alloc);
+/// Adds the parts of a chunked body, of which the last may be bad.
+pub(crate) fn add_parts(
+    alloc: Global,
+    dice: &mut Dice,
+    parts: &mut Vec<Part>,
+) -> Result<(), AllocError> {
     for _ in 0..dice.roll(4) {
-        let size = if dice.is_one_in(60) {
-            dice.number(&[16384, 16385, 20000])
-        } else {
-            dice.roll(20).saturating_add(1)
-        };
-        parts.push(size_line(alloc, dice, size)?)?;
-        parts.push(good(PartKind::Content, draw_bytes(alloc, dice, size)?))?;
-        parts.push(good(PartKind::ContentEnd, Vec::from_slice(alloc, b"\r\n")?))?;
+        add_chunk(alloc, dice, parts)?;
     }
     parts.push(size_line(alloc, dice, 0)?)?;
     parts.push(good(PartKind::Trailer, trailer(alloc, dice)?))?;
     if dice.is_one_in(3) {
-        spoil(alloc, dice, &mut parts)?;
+        spoil(alloc, dice, parts)?;
     }
-    Ok(parts)
+    Ok(())
 }
 
-/// Bytes of which many are those that lines are made of.
-pub(crate) fn draw_bytes(
-    alloc: Global,
+fn add_chunk(alloc: Global, dice: &mut Dice, parts: &mut Vec<Part>) -> Result<(), AllocError> {
+    let size = if dice.is_one_in(60) {
+        dice.number(&[16384, 16385, 20000])
+    } else {
+        dice.roll(20).saturating_add(1)
+    };
+    parts.push(size_line(alloc, dice, size)?)?;
+    let mut content = Vec::new(alloc);
+    add_bytes(dice, size, &mut content)?;
+    parts.push(good(PartKind::Content, content))?;
+    parts.push(good(PartKind::ContentEnd, Vec::from_slice(alloc, b"\r\n")?))?;
+    Ok(())
+}
+
+/// Adds so many bytes, of which many are those that lines are made of.
+pub(crate) fn add_bytes(
     dice: &mut Dice,
     count: usize,
-) -> Result<Vec<u8>, AllocError> {
-    let mut bytes = Vec::new(alloc);
+    bytes: &mut Vec<u8>,
+) -> Result<(), AllocError> {
     for _ in 0..count {
         let byte = match dice.roll(8) {
             0 => b'\r',
@@ -51,7 +60,7 @@ pub(crate) fn draw_bytes(
         };
         bytes.push(byte)?;
     }
-    Ok(bytes)
+    Ok(())
 }
 
 fn good(kind: PartKind, text: Vec<u8>) -> Part {
@@ -70,19 +79,22 @@ fn size_line(alloc: Global, dice: &mut Dice, size: usize) -> Result<Part, AllocE
     } else {
         format!(in alloc; "{zeros}{size:X}")?.into_bytes()
     };
-    text.extend_from_slice(
-        dice.word(&["", "", "", " ", ";a=\"1\"", "\t ;\x00"])
-            .as_bytes(),
-    )?;
+    add_extension(dice, &mut text)?;
+    Ok(good(PartKind::Size, text))
+}
+
+/// What stands behind the size, and the end of the line.
+fn add_extension(dice: &mut Dice, text: &mut Vec<u8>) -> Result<(), AllocError> {
+    let extension = dice.word(&["", "", "", " ", ";a=\"1\"", "\t ;\x00"]);
+    text.extend_from_slice(extension.as_bytes())?;
+    let ends = b"\r\n";
     if dice.is_one_in(30) {
         text.extend_from_slice(b";")?;
-        let ends = b"\r\n";
         for _ in text.len()..MOST_SIZE_BYTES.saturating_sub(ends.len()) {
             text.push(b'e')?;
         }
     }
-    text.extend_from_slice(b"\r\n")?;
-    Ok(good(PartKind::Size, text))
+    text.extend_from_slice(ends)
 }
 
 /// A trailer, now and then of as many bytes or fields as it may have.
@@ -127,21 +139,26 @@ fn spoil(alloc: Global, dice: &mut Dice, parts: &mut Vec<Part>) -> Result<(), Al
         PartKind::Content => (at.saturating_add(1), PartKind::ContentEnd),
         PartKind::Size | PartKind::ContentEnd | PartKind::Trailer => (at, kind),
     };
-    let part = match kind {
-        PartKind::Size => bad_size_line(alloc, dice)?,
-        PartKind::Trailer => bad_trailer(alloc, dice)?,
-        PartKind::Content | PartKind::ContentEnd => {
-            let (text, shown) = match dice.roll(3) {
-                0 => ("\n\r\n", 1),
-                1 => ("x\r\n", 1),
-                _ => ("\rx\n", 2),
-            };
-            bad(alloc, PartKind::ContentEnd, text, shown, shown)?
-        }
-    };
     parts.truncate(at);
-    parts.push(part)?;
+    parts.push(bad_part(alloc, dice, kind)?)?;
     Ok(())
+}
+
+fn bad_part(alloc: Global, dice: &mut Dice, kind: PartKind) -> Result<Part, AllocError> {
+    match kind {
+        PartKind::Size => bad_size_line(alloc, dice),
+        PartKind::Trailer => bad_trailer(alloc, dice),
+        PartKind::Content | PartKind::ContentEnd => bad_content_end(alloc, dice),
+    }
+}
+
+fn bad_content_end(alloc: Global, dice: &mut Dice) -> Result<Part, AllocError> {
+    let (text, shown) = match dice.roll(3) {
+        0 => ("\n\r\n", 1),
+        1 => ("x\r\n", 1),
+        _ => ("\rx\n", 2),
+    };
+    bad(alloc, PartKind::ContentEnd, text, shown, shown)
 }
 
 fn bad(
@@ -170,21 +187,18 @@ fn bad_size_line(alloc: Global, dice: &mut Dice) -> Result<Part, AllocError> {
         5 => ("5\n", 2),
         6 => ("5\rx", 3),
         7 => ("00000000000000005\r\n", 17),
-        _ => {
-            let mut line = bad(
-                alloc,
-                PartKind::Size,
-                "5;",
-                MOST_SIZE_BYTES.saturating_sub(1),
-                MOST_SIZE_BYTES.saturating_sub(1),
-            )?;
-            for _ in 0..MOST_SIZE_BYTES {
-                line.text.push(b'e')?;
-            }
-            return Ok(line);
-        }
+        _ => return long_size_line(alloc),
     };
     bad(alloc, PartKind::Size, text, shown, shown)
+}
+
+fn long_size_line(alloc: Global) -> Result<Part, AllocError> {
+    let shown = MOST_SIZE_BYTES.saturating_sub(1);
+    let mut line = bad(alloc, PartKind::Size, "5;", shown, shown)?;
+    for _ in 0..MOST_SIZE_BYTES {
+        line.text.push(b'e')?;
+    }
+    Ok(line)
 }
 
 /// Something in the place of a trailer. It may show with the first byte that can't stand there, and has to at the end of its line.
@@ -195,20 +209,23 @@ fn bad_trailer(alloc: Global, dice: &mut Dice) -> Result<Part, AllocError> {
         2 => ("T: 1\r\n folded\r\n\r\n", 7, 15),
         3 => ("T: 1\0\r\n\r\n", 5, 7),
         4 => ("T\r\n\r\n", 2, 3),
-        5 => {
-            let most = MOST_TRAILER_BYTES;
-            return Ok(Part {
-                kind: PartKind::Trailer,
-                text: long_trailer(alloc, most.saturating_add(1))?,
-                bad: Some(Bad {
-                    may: most.saturating_sub(1),
-                    must: most,
-                }),
-            });
-        }
+        5 => return too_long(alloc),
         _ => return too_many_fields(alloc),
     };
     bad(alloc, PartKind::Trailer, text, may, must)
+}
+
+/// A trailer of one byte more than it may have.
+fn too_long(alloc: Global) -> Result<Part, AllocError> {
+    let most = MOST_TRAILER_BYTES;
+    Ok(Part {
+        kind: PartKind::Trailer,
+        text: long_trailer(alloc, most.saturating_add(1))?,
+        bad: Some(Bad {
+            may: most.saturating_sub(1),
+            must: most,
+        }),
+    })
 }
 
 /// A trailer with one field more than it may have. It may show from that one's first byte on.
