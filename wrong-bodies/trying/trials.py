@@ -15,7 +15,6 @@ from trying.refusals import Refusal, judged, refused_itself, verdict_alone
 from trying.repository import Repository
 from trying.source import types_of
 
-RT = os.path.join(os.path.dirname(os.path.realpath(__file__)), "../../tools/rt")
 KEPT = "out/incremental"
 BYTES_A_JOB = 3_000_000_000
 
@@ -32,7 +31,7 @@ class Runs:
             if self.is_stopped:
                 raise Fault("stopped")
             started = subprocess.Popen(
-                [RT, *words], cwd=folder, stdin=subprocess.DEVNULL, stdout=subprocess.PIPE, stderr=subprocess.STDOUT
+                ["rt", *words], cwd=folder, stdin=subprocess.DEVNULL, stdout=subprocess.PIPE, stderr=subprocess.STDOUT
             )
             self.running.add(started)
         try:

@@ -57,15 +57,23 @@ finding_of_reading_for sheet (Err fault) = NoPlan fault
 abbrev pub finding_for : SheetParts → List ℕ → Finding
 finding_for sheet text = finding_of_reading_for sheet (plan_of_text text)
 
--- the text spells a plan of the sheet's version, made for the sheet; each assignment that agrees with the plan is best at the
--- sheet's capacities, and has this score
-pub record IsBestPlanFor (sheet : SheetParts) (text : List ℕ) (score : Score) : Type 0 where
-  pub plan : PlanParts
-  pub read : plan_of_text text ≡ Ok plan
+-- a plan of the sheet's version, made for the sheet; each assignment that agrees with it is best at the sheet's capacities, and has this score
+pub record IsBestFor (sheet : SheetParts) (plan : PlanParts) (score : Score) : Type 0 where
   pub version : plan.version ≡ sheet.version
   pub made_for : IsMadeFor sheet plan
   pub agreeing : AgreeingAreBest (sheet_room sheet) plan.rows
   pub score_is : rows_score plan.rows ≡ score
+
+-- what a finding says of a plan that was made for the sheet
+abbrev pub MeansIsBestFor : SheetParts → PlanParts → Finding → Type 0
+MeansIsBestFor sheet plan (Best score) = IsBestFor sheet plan score
+MeansIsBestFor sheet plan _ = ⊤
+
+-- the text spells a plan that is best for the sheet, with this score
+pub record IsBestPlanFor (sheet : SheetParts) (text : List ℕ) (score : Score) : Type 0 where
+  pub plan : PlanParts
+  pub read : plan_of_text text ≡ Ok plan
+  pub best : IsBestFor sheet plan score
 
 -- what such a finding says of plans
 abbrev pub MeansBestFor : SheetParts → List ℕ → Finding → Type 0

@@ -3,7 +3,7 @@ ghost use Rattle.std.specs.String.{string_bytes};
 ghost use Rattle.lb_cli_plans.specs.Verify.{score_line, score_words, labelled, versions_line};
 
 use cert_check::{CheckFault, check};
-use dual_cert::{ReadError, Sheet, TextFault, read_plan};
+use dual_cert::{Plan, ReadError, Sheet, TextFault, read_plan};
 use pin_set::Score;
 use std::alloc::{AllocError, Global};
 
@@ -23,7 +23,8 @@ pub enum Finding {
 impl Finding {
     ghost use Rattle.std.specs.Prelude.{◌≡◌, IfOk};
     ghost use Rattle.std.specs.String.{string_bytes};
-    ghost use Rattle.lb_cli_plans.specs.Verify.{finding_of, finding_for, MeansBest, MeansBestFor, is_best, line_of};
+    ghost use Rattle.cert_check.specs.Verdict.{verdict};
+    ghost use Rattle.lb_cli_plans.specs.Verify.{finding_of, finding_for, finding_at_versions, MeansBest, MeansBestFor, MeansIsBestFor, is_best, line_of};
 
     /// What is found of the text. Takes the time of reading it, and memory of a few times its size.
     pub fn of(alloc: Global, text: &[u8]) -> Result<Finding, AllocError>
@@ -47,22 +48,29 @@ impl Finding {
         ensures exact { IfOk result (λ finding. finding ≡ finding_for sheet.now text.now) }
         ensures best { IfOk result (MeansBestFor sheet.now text.now) }
     {
-        let plan = match read_plan(alloc, text) {
-            Ok(plan) => plan,
-            Err(ReadError::Fault(fault)) => return Ok(Finding::NoPlan(fault)),
-            Err(ReadError::Memory) => return Err(AllocError),
-        };
-        let score = match check(sheet, &plan) {
+        match read_plan(alloc, text) {
+            Ok(plan) => Ok(Finding::of_plan_for(sheet, &plan)),
+            Err(ReadError::Fault(fault)) => Ok(Finding::NoPlan(fault)),
+            Err(ReadError::Memory) => Err(AllocError),
+        }
+    }
+
+    /// What is found of a plan that is to be for the sheet.
+    fn of_plan_for(sheet: &Sheet, plan: &Plan) -> Finding
+        ensures exact { result ≡ finding_at_versions plan.now.version sheet.now.version (verdict sheet.now plan.now) }
+        ensures best { MeansIsBestFor sheet.now plan.now result }
+    {
+        let score = match check(sheet, plan) {
             Ok(score) => score,
-            Err(fault) => return Ok(Finding::Refused(fault)),
+            Err(fault) => return Finding::Refused(fault),
         };
         if plan.version() != sheet.version() {
-            return Ok(Finding::OtherVersion {
+            return Finding::OtherVersion {
                 plan: plan.version(),
                 sheet: sheet.version(),
-            });
+            };
         }
-        Ok(Finding::Best(score))
+        Finding::Best(score)
     }
 
     /// Whether the text is a best plan.

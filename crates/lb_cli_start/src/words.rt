@@ -1,6 +1,8 @@
-ghost use Rattle.std.specs.Prelude.{◌≡◌, ◌≢◌, IfErr};
+ghost use Rattle.std.specs.Prelude.{◌≡◌, ◌≢◌, IfOk, IfErr, map};
+ghost use Rattle.std.specs.String.{string_bytes};
+ghost use Rattle.lb_cli_words.specs.Words.{texts};
 
-use std::alloc::AllocGlobal;
+use std::alloc::{AllocError, AllocGlobal, Global};
 use std::env::Env;
 use std::{env, io};
 
@@ -28,13 +30,24 @@ pub fn texts_of<'a, R: Eprint + AllocGlobal>(
     rt: &R,
     words: &'a [String],
 ) -> Result<Vec<&'a str>, u8>
-    ensures { IfErr result (λ status. status ≢ 0) }
+    ensures ok { IfOk result (λ found. texts found.items ≡ map string_bytes words.now) }
+    ensures status { IfErr result (λ status. status ≢ 0) }
 {
-    let texts = words.iter().map(|word| word.as_str());
-    match texts.collect::<Vec<&str>>(rt.alloc()) {
+    match listed(rt.alloc(), words) {
         Ok(texts) => Ok(texts),
         Err(_) => Err(out_of_memory(rt)),
     }
+}
+
+/// The words' texts in a list.
+fn listed<'a>(alloc: Global, words: &'a [String]) -> Result<Vec<&'a str>, AllocError>
+    ensures { IfOk result (λ found. texts found.items ≡ map string_bytes words.now) }
+{
+    let mut texts = Vec::with_capacity(alloc, words.len())?;
+    for word in words {
+        texts.push(word.as_str())?;
+    }
+    Ok(texts)
 }
 
 /// Tells on standard error that memory ran out, and gives the status to end with.

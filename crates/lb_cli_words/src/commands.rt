@@ -1,8 +1,9 @@
 //! The commands with their help, as `clap` tells it.
-ghost use Rattle.std.specs.Prelude.{◌≡◌, IfOk, false};
-ghost use Rattle.clap.specs.Words.{app_of};
+ghost use Rattle.std.specs.Prelude.{◌≡◌, IfOk, codes, false};
+ghost use Rattle.clap.specs.Words.{app_of, new_app, rule_of};
 ghost use Rattle.clap.specs.declared.builder.command.Command.TheViews.{out-Command as fields_of};
-ghost use Rattle.lb_cli_words.specs.Clap.{check_app, commands_app, plan_app, program_app, replay_app, run_app, verify_app};
+ghost use Rattle.lb_cli_words.specs.Clap.{check_app, commands_app, plain_app, plan_app, program_app, replay_app, run_app, verify_app};
+ghost use Rattle.lb_cli_words.specs.Clap.{file_option_rule, flag_rule, named_rule, operand_rule};
 
 use clap::{Arg, ArgAction, Command};
 use std::alloc::{AllocError, Global};
@@ -24,10 +25,19 @@ fn program<'a>(alloc: Global) -> Result<Command<'a>, AllocError>
     ensures app { IfOk result (λ c. app_of c ≡ program_app) }
     ensures local { IfOk result (λ c. (fields_of c).has_globals ≡ false) }
 {
-    let version = Arg::new(alloc, "version")
-        .long("version")
-        .help("Print the program's version, and what it is proved with")
-        .action(ArgAction::SetTrue);
+    let version = flag(
+        alloc,
+        "version",
+        "Print the program's version, and what it is proved with",
+    );
+    plain(alloc).arg(version)
+}
+
+/// The program without its option and its commands.
+fn plain<'a>(alloc: Global) -> Command<'a>
+    ensures app { app_of result ≡ plain_app }
+    ensures local { (fields_of result).has_globals ≡ false }
+{
     Command::new(alloc, "stickylb")
         .about(
             "Balances load with stick tables, plans the moves of their pins, checks plans, and reads configurations",
@@ -35,109 +45,141 @@ fn program<'a>(alloc: Global) -> Result<Command<'a>, AllocError>
         .arg_required_else_help(true)
         .subcommand_required(true)
         .disable_help_subcommand(true)
-        .arg(version)
 }
 
 fn verify<'a>(alloc: Global) -> Result<Command<'a>, AllocError>
     ensures app { IfOk result (λ c. app_of c ≡ verify_app) }
     ensures local { IfOk result (λ c. (fields_of c).has_globals ≡ false) }
 {
-    let sheet = Arg::new(alloc, "sheet")
-        .long("sheet")
-        .value_name("SHEET")
-        .help("File that holds the sheet that the plan is to be for");
-    let file = Arg::new(alloc, "file")
-        .value_name("FILE")
-        .help("File that holds the plan's text")
-        .required(true);
-    Command::new(alloc, "verify")
-        .about(
-            "Check that a plan keeps to a sheet, its own or a given one, and that no plan is better",
-        )
-        .after_help(
-            "Prints `best pins N unplaced U moved M` with status 0, or the fault, as `53 NotShown`, with status 1.",
-        )
-        .arg(sheet)?
-        .arg(file)
+    let verify = command(
+        alloc,
+        "verify",
+        "Check that a plan keeps to a sheet, its own or a given one, and that no plan is better",
+        "Prints `best pins N unplaced U moved M` with status 0, or the fault, as `53 NotShown`, with status 1.",
+    );
+    verify.arg(sheet_option(alloc))?.arg(operand(
+        alloc,
+        "file",
+        "FILE",
+        "File that holds the plan's text",
+    ))
 }
 
 fn plan<'a>(alloc: Global) -> Result<Command<'a>, AllocError>
     ensures app { IfOk result (λ c. app_of c ≡ plan_app) }
     ensures local { IfOk result (λ c. (fields_of c).has_globals ≡ false) }
 {
-    let table = Arg::new(alloc, "table")
-        .long("table")
-        .help("Print the moves and the servers as tables for a reader, and not the plan's text")
-        .action(ArgAction::SetTrue);
-    let file = Arg::new(alloc, "file")
-        .value_name("FILE")
-        .help("File that holds the sheet's text")
-        .required(true);
-    Command::new(alloc, "plan")
-        .about("Plan the moves of a sheet's pins, as few and as cheap as can be")
-        .after_help(
-            "Prints the plan's text with status 0, or the sheet's fault, as `41 TooLarge`, with status 1.",
-        )
-        .arg(table)?
-        .arg(file)
+    let plan = command(
+        alloc,
+        "plan",
+        "Plan the moves of a sheet's pins, as few and as cheap as can be",
+        "Prints the plan's text with status 0, or the sheet's fault, as `41 TooLarge`, with status 1.",
+    );
+    let table = flag(
+        alloc,
+        "table",
+        "Print the moves and the servers as tables for a reader, and not the plan's text",
+    );
+    plan.arg(table)?.arg(operand(alloc, "file", "FILE", "File that holds the sheet's text"))
 }
 
 fn check<'a>(alloc: Global) -> Result<Command<'a>, AllocError>
     ensures app { IfOk result (λ c. app_of c ≡ check_app) }
     ensures local { IfOk result (λ c. (fields_of c).has_globals ≡ false) }
 {
-    let file = Arg::new(alloc, "file")
-        .short('f')
-        .value_name("FILE")
-        .help("File that holds the configuration")
-        .required(true);
-    Command::new(alloc, "check")
-        .about("Check a configuration")
-        .after_help(
-            "Prints what is ignored, as `line 3: log ignored`, and then `configuration is valid` with status 0; or the \
-             first fault, as `line 2: 22 UnknownWord`, with status 1.",
-        )
-        .arg(file)
+    let check = command(
+        alloc,
+        "check",
+        "Check a configuration",
+        "Prints what is ignored, as `line 3: log ignored`, and then `configuration is valid` with status 0; or the \
+         first fault, as `line 2: 22 UnknownWord`, with status 1.",
+    );
+    check.arg(config_option(alloc))
 }
 
 fn replay<'a>(alloc: Global) -> Result<Command<'a>, AllocError>
     ensures app { IfOk result (λ c. app_of c ≡ replay_app) }
     ensures local { IfOk result (λ c. (fields_of c).has_globals ≡ false) }
 {
-    let config = Arg::new(alloc, "config")
-        .value_name("CONFIG")
-        .help("File that holds a configuration of which one backend has servers")
-        .required(true);
-    let script = Arg::new(alloc, "script")
-        .value_name("SCRIPT")
-        .help("File that holds the script")
-        .required(true);
-    Command::new(alloc, "replay")
-        .about("Replay a script of requests, checks, commands and plans at a backend")
-        .after_help(
-            "Prints the answer to each line of the script, as `served a made`, with status 0; or the configuration's \
-             fault, with status 1. A bad line of the script ends it, with status 1.",
-        )
-        .arg(config)?
-        .arg(script)
+    let replay = command(
+        alloc,
+        "replay",
+        "Replay a script of requests, checks, commands and plans at a backend",
+        "Prints the answer to each line of the script, as `served a made`, with status 0; or the configuration's \
+         fault, with status 1. A bad line of the script ends it, with status 1.",
+    );
+    let config = operand(
+        alloc,
+        "config",
+        "CONFIG",
+        "File that holds a configuration of which one backend has servers",
+    );
+    replay.arg(config)?.arg(operand(alloc, "script", "SCRIPT", "File that holds the script"))
 }
 
 fn run<'a>(alloc: Global) -> Result<Command<'a>, AllocError>
     ensures app { IfOk result (λ c. app_of c ≡ run_app) }
     ensures local { IfOk result (λ c. (fields_of c).has_globals ≡ false) }
 {
-    let file = Arg::new(alloc, "file")
+    let run = command(
+        alloc,
+        "run",
+        "Balance the load of a configuration, until the command `stop` comes over its socket",
+        "Prints `closed BACKEND events N rising yes` for each backend at the end, with status 0; or the \
+         configuration's first fault, as `line 2: 22 UnknownWord`, or the address that can't be bound, with status 1.",
+    );
+    run.arg(config_option(alloc))
+}
+
+/// A command without arguments: what it is for, and what it `prints`.
+fn command<'a>(alloc: Global, name: &'a str, about: &'a str, prints: &'a str) -> Command<'a>
+    ensures app { app_of result ≡ new_app name.now }
+    ensures local { (fields_of result).has_globals ≡ false }
+{
+    Command::new(alloc, name).about(about).after_help(prints)
+}
+
+/// An argument in its place that names a file.
+fn operand<'a>(alloc: Global, name: &'a str, value: &'a str, help: &'a str) -> Arg<'a>
+    ensures rule { rule_of result ≡ operand_rule name.now }
+    ensures local { result.global ≡ false }
+{
+    Arg::new(alloc, name)
+        .value_name(value)
+        .help(help)
+        .required(true)
+}
+
+/// An option without a value.
+fn flag<'a>(alloc: Global, name: &'a str, help: &'a str) -> Arg<'a>
+    ensures rule { rule_of result ≡ flag_rule name.now }
+    ensures local { result.global ≡ false }
+{
+    Arg::new(alloc, name)
+        .help(help)
+        .long(name)
+        .action(ArgAction::SetTrue)
+}
+
+/// The option `--sheet`, which names a file.
+fn sheet_option<'a>(alloc: Global) -> Arg<'a>
+    ensures rule { rule_of result ≡ named_rule (codes "sheet") }
+    ensures local { result.global ≡ false }
+{
+    Arg::new(alloc, "sheet")
+        .value_name("SHEET")
+        .help("File that holds the sheet that the plan is to be for")
+        .long("sheet")
+}
+
+/// The option `-f`, which names a configuration's file.
+fn config_option<'a>(alloc: Global) -> Arg<'a>
+    ensures rule { rule_of result ≡ file_option_rule }
+    ensures local { result.global ≡ false }
+{
+    Arg::new(alloc, "file")
         .short('f')
         .value_name("FILE")
         .help("File that holds the configuration")
-        .required(true);
-    Command::new(alloc, "run")
-        .about(
-            "Balance the load of a configuration, until the command `stop` comes over its socket",
-        )
-        .after_help(
-            "Prints `closed BACKEND events N rising yes` for each backend at the end, with status 0; or the \
-             configuration's first fault, as `line 2: 22 UnknownWord`, or the address that can't be bound, with status 1.",
-        )
-        .arg(file)
+        .required(true)
 }

@@ -57,13 +57,20 @@ fn plain_request(words: &[&str]) -> &'static [&'static str]
 fn mistake<'a>(alloc: Global, words: &'a [&'a str]) -> Result<Error, AllocError>
     ensures { IfOk result (λ e. kind_of e ≢ ErrorKind.DisplayHelp) }
 {
-    let told = commands(alloc)?.try_get_matches_from(words);
-    if let Some(error) = told.err() {
-        if error.kind() != ErrorKind::DisplayHelp {
-            return Ok(error);
-        }
+    match found_wrong(alloc, words)? {
+        Some(error) if error.kind() != ErrorKind::DisplayHelp => Ok(error),
+        _ => conflict(alloc),
     }
-    // To `clap` an option of the program may stand before a command.
-    let mut all = commands(alloc)?;
-    all.error(ErrorKind::ArgumentConflict, "these words don't go together")
+}
+
+/// What `clap` finds wrong with the words, if anything.
+fn found_wrong<'a>(alloc: Global, words: &'a [&'a str]) -> Result<Option<Error>, AllocError> {
+    Ok(commands(alloc)?.try_get_matches_from(words).err())
+}
+
+/// What is wrong with words that `clap` takes, or takes for a request for help: to it an option of the program may stand before a command.
+fn conflict(alloc: Global) -> Result<Error, AllocError>
+    ensures { IfOk result (λ e. kind_of e ≢ ErrorKind.DisplayHelp) }
+{
+    commands(alloc)?.error(ErrorKind::ArgumentConflict, "these words don't go together")
 }
