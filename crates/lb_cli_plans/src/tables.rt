@@ -1,5 +1,6 @@
 //! A plan as tables for a reader.
-ghost use Rattle.std.specs.Prelude.{◌≡◌, ◌^◌, ◌<◌, ◌≤◌, ◌++◌, ◌∷◌, length, IfOk, OnOk};
+ghost use Rattle.std.specs.Prelude.{◌≡◌, ◌^◌, ◌<◌, ◌≤◌, ◌++◌, ◌∷◌, [], length, IfOk, OnOk};
+ghost use Rattle.std.specs.Fmt.{decimal};
 ghost use Rattle.std.specs.List.{flat_map};
 ghost use Rattle.lb_types.specs.declared.limits.TheConstants.{MAX_SERVERS};
 ghost use Rattle.lb_cli_plans.specs.Tables.{move_line, moves_from, pins_at, pins_between, pins_to, places, tables_text};
@@ -80,13 +81,10 @@ fn push_move(
     if from == to || pins == 0 {
         return Ok(());
     }
-    text.extend_from_slice(place_name(plan.servers(), from))?;
-    text.push(b'\t')?;
-    text.extend_from_slice(place_name(plan.servers(), to))?;
-    text.push(b'\t')?;
-    text.extend_from_slice(pins.to_string(alloc)?.as_bytes())?;
-    text.push(b'\n')?;
-    Ok(())
+    push_cell(text, place_name(plan.servers(), from))?;
+    push_cell(text, place_name(plan.servers(), to))?;
+    push_number(alloc, text, pins)?;
+    text.extend_from_slice(b"\n")
 }
 
 fn push_places(
@@ -112,17 +110,13 @@ fn push_place(
 ) -> Result<(), AllocError>
     ensures { OnOk result (text.new.items ≡ text.old.items ++ place_line plan.now place) }
 {
-    let before = pins_at(plan.rows(), place);
-    let after = pins_to(plan.rows(), place);
-    text.extend_from_slice(place_name(plan.servers(), place))?;
-    text.push(b'\t')?;
-    text.extend_from_slice(before.to_string(alloc)?.as_bytes())?;
-    text.push(b'\t')?;
-    text.extend_from_slice(after.to_string(alloc)?.as_bytes())?;
-    text.push(b'\t')?;
+    let before = pins_at(plan.rows(), &place);
+    let after = pins_to(plan.rows(), &place);
+    push_cell(text, place_name(plan.servers(), place))?;
+    push_number_cell(alloc, text, before)?;
+    push_number_cell(alloc, text, after)?;
     push_columns(alloc, text, plan.servers(), place)?;
-    text.push(b'\n')?;
-    Ok(())
+    text.extend_from_slice(b"\n")
 }
 
 /// Puts the capacity and the price of the place behind the text.
@@ -147,11 +141,33 @@ fn push_usage(alloc: Global, text: &mut Vec<u8>, priced: &PricedServer) -> Resul
     ensures { OnOk result (text.new.items ≡ text.old.items ++ usage_columns priced.now) }
 {
     match priced.server.capacity {
-        Some(capacity) => text.extend_from_slice(capacity.to_string(alloc)?.as_bytes())?,
-        None => text.extend_from_slice(b"off")?,
+        Some(capacity) => push_number_cell(alloc, text, u64::from(capacity))?,
+        None => push_cell(text, b"off")?,
     }
-    text.push(b'\t')?;
-    text.extend_from_slice(priced.price.to_string(alloc)?.as_bytes())
+    push_number(alloc, text, priced.price)
+}
+
+/// Puts this behind the text, and a tab, which ends a column.
+fn push_cell(text: &mut Vec<u8>, cell: &[u8]) -> Result<(), AllocError>
+    ensures { OnOk result (text.new.items ≡ text.old.items ++ cell.now ++ 9 ∷ []) }
+{
+    text.extend_from_slice(cell)?;
+    text.extend_from_slice(b"\t")
+}
+
+/// The same of a number.
+fn push_number_cell(alloc: Global, text: &mut Vec<u8>, number: u64) -> Result<(), AllocError>
+    ensures { OnOk result (text.new.items ≡ text.old.items ++ decimal number ++ 9 ∷ []) }
+{
+    push_number(alloc, text, number)?;
+    text.extend_from_slice(b"\t")
+}
+
+/// Puts a number behind the text.
+fn push_number(alloc: Global, text: &mut Vec<u8>, number: u64) -> Result<(), AllocError>
+    ensures { OnOk result (text.new.items ≡ text.old.items ++ decimal number) }
+{
+    text.extend_from_slice(number.to_string(alloc)?.as_bytes())
 }
 
 fn place_name<'a>(servers: &'a [PricedServer], place: Place) -> &'a [u8]
@@ -166,12 +182,12 @@ fn place_name<'a>(servers: &'a [PricedServer], place: Place) -> &'a [u8]
     }
 }
 
-fn pins_at(rows: &[Row], place: Place) -> u64
-    requires { pins_at rows.now place < 2 ^ 64 }
-    ensures { result ≡ pins_at rows.now place }
+fn pins_at(rows: &[Row], place: &Place) -> u64
+    requires { pins_at rows.now place.now < 2 ^ 64 }
+    ensures { result ≡ pins_at rows.now place.now }
 {
     rows.iter()
-        .map(|row| if row.kind.place == place {
+        .map(|row| if row.kind.place == *place {
             u64::from(row.count)
         } else {
             0
@@ -179,12 +195,12 @@ fn pins_at(rows: &[Row], place: Place) -> u64
         .sum()
 }
 
-fn pins_to(rows: &[Row], place: Place) -> u64
-    requires { pins_to rows.now place < 2 ^ 64 }
-    ensures { result ≡ pins_to rows.now place }
+fn pins_to(rows: &[Row], place: &Place) -> u64
+    requires { pins_to rows.now place.now < 2 ^ 64 }
+    ensures { result ≡ pins_to rows.now place.now }
 {
     rows.iter()
-        .map(|row| if row.new_place == place {
+        .map(|row| if row.new_place == *place {
             u64::from(row.count)
         } else {
             0

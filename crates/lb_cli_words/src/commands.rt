@@ -1,6 +1,6 @@
 //! The commands with their help, as `clap` tells it.
-ghost use Rattle.std.specs.Prelude.{◌≡◌, IfOk, codes, false};
-ghost use Rattle.clap.specs.Words.{app_of, new_app, rule_of};
+ghost use Rattle.std.specs.Prelude.{◌≡◌, IfOk, IsOkAnd, codes, false};
+ghost use Rattle.clap.specs.Words.{app_of, new_app, rule_of, with_rule, with_subcommand};
 ghost use Rattle.clap.specs.declared.builder.command.Command.TheViews.{out-Command as fields_of};
 ghost use Rattle.lb_cli_words.specs.Clap.{check_app, commands_app, plain_app, plan_app, program_app, replay_app, run_app, verify_app};
 ghost use Rattle.lb_cli_words.specs.Clap.{file_option_rule, flag_rule, named_rule, operand_rule};
@@ -12,12 +12,22 @@ use std::alloc::{AllocError, Global};
 pub(crate) fn commands<'a>(alloc: Global) -> Result<Command<'a>, AllocError>
     ensures { IfOk result (λ c. app_of c ≡ commands_app) }
 {
-    program(alloc)?
-        .subcommand(verify(alloc)?)?
-        .subcommand(plan(alloc)?)?
-        .subcommand(check(alloc)?)?
-        .subcommand(replay(alloc)?)?
-        .subcommand(run(alloc)?)
+    let commands = with_command(program(alloc)?, verify(alloc))?;
+    let commands = with_command(commands, plan(alloc))?;
+    let commands = with_command(commands, check(alloc))?;
+    let commands = with_command(commands, replay(alloc))?;
+    with_command(commands, run(alloc))
+}
+
+/// The program with one command more, where that was made.
+fn with_command<'a>(
+    program: Command<'a>,
+    command: Result<Command<'a>, AllocError>,
+) -> Result<Command<'a>, AllocError>
+    requires { IfOk command (λ c. (fields_of c).has_globals ≡ false) }
+    ensures { IfOk result (λ whole. IsOkAnd command.entry (λ c. app_of whole ≡ with_subcommand (app_of program.entry) (app_of c).top)) }
+{
+    program.subcommand(command?)
 }
 
 /// The program without commands.
@@ -57,12 +67,8 @@ fn verify<'a>(alloc: Global) -> Result<Command<'a>, AllocError>
         "Check that a plan keeps to a sheet, its own or a given one, and that no plan is better",
         "Prints `best pins N unplaced U moved M` with status 0, or the fault, as `53 NotShown`, with status 1.",
     );
-    verify.arg(sheet_option(alloc))?.arg(operand(
-        alloc,
-        "file",
-        "FILE",
-        "File that holds the plan's text",
-    ))
+    let file = operand(alloc, "file", "FILE", "File that holds the plan's text");
+    with_arguments(verify, sheet_option(alloc), file)
 }
 
 fn plan<'a>(alloc: Global) -> Result<Command<'a>, AllocError>
@@ -80,7 +86,8 @@ fn plan<'a>(alloc: Global) -> Result<Command<'a>, AllocError>
         "table",
         "Print the moves and the servers as tables for a reader, and not the plan's text",
     );
-    plan.arg(table)?.arg(operand(alloc, "file", "FILE", "File that holds the sheet's text"))
+    let file = operand(alloc, "file", "FILE", "File that holds the sheet's text");
+    with_arguments(plan, table, file)
 }
 
 fn check<'a>(alloc: Global) -> Result<Command<'a>, AllocError>
@@ -114,7 +121,8 @@ fn replay<'a>(alloc: Global) -> Result<Command<'a>, AllocError>
         "CONFIG",
         "File that holds a configuration of which one backend has servers",
     );
-    replay.arg(config)?.arg(operand(alloc, "script", "SCRIPT", "File that holds the script"))
+    let script = operand(alloc, "script", "SCRIPT", "File that holds the script");
+    with_arguments(replay, config, script)
 }
 
 fn run<'a>(alloc: Global) -> Result<Command<'a>, AllocError>
@@ -137,6 +145,21 @@ fn command<'a>(alloc: Global, name: &'a str, about: &'a str, prints: &'a str) ->
     ensures local { (fields_of result).has_globals ≡ false }
 {
     Command::new(alloc, name).about(about).after_help(prints)
+}
+
+/// The command with these two arguments, in their order.
+fn with_arguments<'a>(
+    command: Command<'a>,
+    first: Arg<'a>,
+    second: Arg<'a>,
+) -> Result<Command<'a>, AllocError>
+    requires command { (fields_of command).has_globals ≡ false }
+    requires first { first.global ≡ false }
+    requires second { second.global ≡ false }
+    ensures app { IfOk result (λ c. app_of c ≡ with_rule (with_rule (app_of command.entry) (rule_of first.entry)) (rule_of second.entry)) }
+    ensures local { IfOk result (λ c. (fields_of c).has_globals ≡ false) }
+{
+    command.arg(first)?.arg(second)
 }
 
 /// An argument in its place that names a file.
