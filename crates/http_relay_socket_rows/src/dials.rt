@@ -20,7 +20,7 @@ const LIMITS: &[(Option<u32>, Option<u32>)] = &[
     (Some(1000), Some(50)),
 ];
 
-// Bytes go both ways over a connection that was dialled, and silence ends a read at the limit.
+// Bytes go both ways over a connection that was dialled, silence ends a read at the limit, and hanging up resets it.
 #[test]
 fn a_server_that_listens_is_dialled(rt: HostRuntime) -> Result<(), Fail> {
     for (connect, transfer) in LIMITS {
@@ -42,7 +42,7 @@ fn a_server_that_listens_is_dialled(rt: HostRuntime) -> Result<(), Fail> {
         dialer.hang_up(&rt, near);
         let end = far.read(&mut buffer);
         assert!(rt;
-            (there, back, silence, end) == (2, 2, Err(WireFault::Timeout), Ok(0))
+            (there, back, silence, end) == (2, 2, Err(WireFault::Timeout), Err(WireFault::Broken))
                 && buffer == *b"yo",
             "{connect:?}"
         );

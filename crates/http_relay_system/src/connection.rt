@@ -1,5 +1,5 @@
 use http_relay_dial::Limits;
-use libc::net::{POLLERR, POLLHUP, POLLIN, POLLOUT, poll};
+use libc::net::{_SS_SIZE, POLLERR, POLLHUP, POLLIN, POLLOUT, connect, poll};
 use libc::types::pollfd;
 use mio::net as ready;
 use std::io;
@@ -10,9 +10,16 @@ use std::os::fd::AsRawFd;
 /// How often a wait that a signal cut off begins again, and a call that was told that it needn't wait.
 const MOST_TRIES: u32 = 64;
 
+/// An address of no family (`AF_UNSPEC`), and how many of its bytes the system reads.
+const NOWHERE: [u8; _SS_SIZE] = [0; _SS_SIZE];
+
+const NOWHERE_LENGTH: u32 = 16;
+
 /// A connection to a server. Its socket doesn't block: calls wait by `poll`, which takes the limit as an argument, so that none has to be
-/// set. A connection costs three calls of the system, and an answer one besides its reads.
-#[derive(Debug, Drop)]
+/// set. A connection costs three calls of the system, an answer one besides its reads, and the end two. It ends by a reset (RFC 9293,
+/// 3.10.5, ABORT), as HAProxy's connections to servers do: nothing is owed to a server whose answer is there or isn't waited for, and
+/// an end in turn costs both sides more.
+#[derive(Debug)]
 pub struct ServerStream {
     stream: TcpStream,
     /// For how many milliseconds each call may wait. Without a number, and at 0, there is no limit.
@@ -48,6 +55,21 @@ impl ServerStream {
         }
         self.has_written = true;
         Ok(())
+    }
+}
+
+impl Drop for ServerStream {
+    fn drop(self) {
+        // To connect a socket to nowhere dissolves its connection at once. If the system won't, closing it ends it in turn.
+        unsafe { connect(self.stream.as_raw_fd(), &NOWHERE, NOWHERE_LENGTH) };
+        let ServerStream {
+            stream,
+            limit: _,
+            has_written: _,
+            sends_at_once: _,
+            is_asked: _,
+        } = self;
+        drop(stream);
     }
 }
 
