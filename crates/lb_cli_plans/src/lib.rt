@@ -12,7 +12,6 @@ mod finding;
 mod jobs;
 mod plan_job;
 mod sheet_job;
-mod tables;
 mod verify_job;
 mod version_job;
 

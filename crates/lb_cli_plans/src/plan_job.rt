@@ -7,10 +7,10 @@ ghost use Rattle.lb_cli_ends.specs.Hindered.{OnCannotWrite, OnNoAnswer};
 ghost use Rattle.lb_cli_plans.specs.Planning.{Answers, IsPlanFor, was_read};
 ghost use Rattle.lb_cli_plans.specs.Tables.{AreTablesFor, TellsTables};
 
-use crate::tables::tables_text;
 use dual_cert::{ReadError, Sheet, TextFault, read_sheet, write_plan};
 use flow_planner::plan as best_plan;
 use lb_cli_ends::{JobError, whole};
+use lb_cli_tables::tables_text;
 use lb_types::Counted;
 use std::alloc::{AllocError, Global};
 use std::io::{Read, Write};

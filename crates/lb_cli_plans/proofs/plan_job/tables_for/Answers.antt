@@ -3,7 +3,7 @@ use Rattle.std.proofs.lemmas.Result.{IfOk-weaker}
 use Rattle.pin_set.specs.Rows.{rows_score}
 use Rattle.dual_cert_plan.specs.Plans.{PlanParts}
 use Rattle.cert_check.proofs.Accepted.{accepted_best}
-use Rattle.lb_cli_plans.specs.Tables.{tables_text}
+use Rattle.lb_cli_tables.specs.Tables.{tables_text}
 use Rattle.lb_cli_plans.proofs.plan_job.tables_for.Goals as goal
 
 pub returns : goal.returns

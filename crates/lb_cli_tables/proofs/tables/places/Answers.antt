@@ -1,8 +1,8 @@
 use Rattle.std.proofs.Common.{◌≡◌, ◌∙◌, ◌++◌, ℕ, ◌+◌, List, [], ◌∷◌, Option, Some, None, ap, sym, arith}
 use Rattle.std.proofs.lemmas.Grind.{common_steps}
 use Rattle.std.proofs.lemmas.List.FromFn.{map-range_with_len_more}
-use Rattle.lb_cli_plans.specs.Tables.{places}
-use Rattle.lb_cli_plans.proofs.tables.places.Goals as goal
+use Rattle.lb_cli_tables.specs.Tables.{places}
+use Rattle.lb_cli_tables.proofs.tables.places.Goals as goal
 
 -- one server more
 places-more : (all : List (Option ℕ)) (i : ℕ) → all ≡ places i → all ++ Some i ∷ [] ≡ places (i + 1)

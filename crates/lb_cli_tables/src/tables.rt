@@ -1,19 +1,21 @@
-//! A plan as tables for a reader.
 ghost use Rattle.std.specs.Prelude.{◌≡◌, ◌^◌, ◌<◌, ◌≤◌, ◌++◌, ◌∷◌, [], length, IfOk, OnOk};
 ghost use Rattle.std.specs.Fmt.{decimal};
 ghost use Rattle.std.specs.List.{flat_map};
 ghost use Rattle.lb_types.specs.declared.limits.TheConstants.{MAX_SERVERS};
-ghost use Rattle.lb_cli_plans.specs.Tables.{move_line, moves_from, pins_at, pins_between, pins_to, places, tables_text};
-ghost use Rattle.lb_cli_plans.specs.Tables.{place_columns, place_line, place_name, usage_columns};
+ghost use Rattle.lb_cli_tables.specs.Tables.{move_line, moves_from, pins_at, pins_between, pins_to, places, tables_text};
+ghost use Rattle.lb_cli_tables.specs.Tables.{place_columns, place_line, place_name, usage_columns};
 
-use dual_cert::{Plan, PricedServer};
+use dual_cert_plan::{Plan, PricedServer};
 use lb_types::{Place, ServerId};
 use lb_types_pins::Row;
 use std::alloc::{AllocError, Global};
 
-/// What moves, and then the places with their pins. A walk over the rows for each two places, and memory for the text.
+/// The tables of a plan: a line for each two places between which pins move, with how many; then one for each place with its pins before
+/// and after, its capacity and the price of a place there, in moved pins. Columns are parted by tabs.
+///
+/// It costs a walk over the plan's rows for each two places, so (S + 1)^2 walks for S servers. The error is want of memory for the text.
 #[tactic(auto, unfolding(crate::specs::Tables::tables_text))]
-pub(crate) fn tables_text(alloc: Global, plan: &Plan) -> Result<Vec<u8>, AllocError>
+pub fn tables_text(alloc: Global, plan: &Plan) -> Result<Vec<u8>, AllocError>
     ensures { IfOk result (λ text. text.items ≡ tables_text plan.now) }
 {
     let places = places(alloc, plan.servers())?;

@@ -1,6 +1,6 @@
 use Rattle.std.proofs.Common.{◌≡◌}
-use Rattle.lb_cli_plans.specs.Tables.{places}
-use Rattle.lb_cli_plans.proofs.tables.places.Given as goal
+use Rattle.lb_cli_tables.specs.Tables.{places}
+use Rattle.lb_cli_tables.proofs.tables.places.Given as goal
 
 -- none, and the servers so far
 abbrev pub invariant-loop-index : goal.invariant-loop-index

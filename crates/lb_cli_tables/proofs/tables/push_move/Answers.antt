@@ -2,7 +2,7 @@ use Rattle.std.proofs.Common.{◌&&◌, ap, arith}
 use Rattle.lb_types_pins.specs.Kinds.{same_place}
 use Rattle.pin_set.specs.Rows.{rows_pins}
 use Rattle.cert_check.proofs.Bounds.{part-le-pins}
-use Rattle.lb_cli_plans.proofs.tables.push_move.Goals as goal
+use Rattle.lb_cli_tables.proofs.tables.push_move.Goals as goal
 
 pub pins_between-pins-requires : goal.pins_between-pins-requires
 pins_between-pins-requires c =
