@@ -49,13 +49,21 @@ def say(text: str) -> None:
     print(text, file=sys.stderr, flush=True)
 
 
-def processors() -> tuple[str, str]:
-    """The processors of the balancers, and those of clients and origins."""
+def processors(most: int = 2) -> tuple[str, str]:
+    """The processors of the balancers, so many where there are as many again, and those of clients and origins."""
     mine = sorted(os.sched_getaffinity(0))
-    if len(mine) < 4:
+    if len(mine) < 2 * most:
         every = ",".join(map(str, mine))
         return every, every
-    return ",".join(map(str, mine[:2])), ",".join(map(str, mine[2:]))
+    return ",".join(map(str, mine[:most])), ",".join(map(str, mine[most:]))
+
+
+def ticks(cores: str) -> tuple[int, int]:
+    """The ticks in which these processors had nothing to do, and all ticks, since the system began."""
+    lines = [it.split() for it in Path("/proc/stat").read_text().splitlines()]
+    names = {f"cpu{core}" for core in cores.split(",")}
+    counts = [[*map(int, it[1:9])] for it in lines if it[0] in names]
+    return sum(it[3] + it[4] for it in counts), sum(map(sum, counts))
 
 
 def raise_files() -> None:

@@ -1,4 +1,4 @@
-ghost use Rattle.std.specs.Prelude.{◌≡◌, ◌≤◌, length};
+ghost use Rattle.std.specs.Prelude.{◌≡◌, ◌≤◌, ◌∷◌, length};
 ghost use Rattle.lb_types.specs.declared.limits.TheConstants.{MAX_SERVERS};
 ghost use Rattle.dual_cert_text.specs.ServerLines.{AreDistinct};
 ghost use Rattle.dual_cert_text.specs.RowLines.{row_words_of};
@@ -32,6 +32,22 @@ pub(crate) fn read_row_words(
 {
     let count = words.next_part()?;
     let place = words.next_part()?;
+    read_placed(has_costs, servers, count, place, words)
+}
+
+/// The words behind `row`, of which the first two are read.
+#[tactic(auto, unfolding(crate::specs::RowLines::row_words_of))]
+fn read_placed(
+    has_costs: bool,
+    servers: &[PricedServer],
+    count: &[u8],
+    place: &[u8],
+    words: &mut Parts,
+) -> Option<RowWords>
+    requires few { length servers.now ≤ MAX_SERVERS }
+    requires distinct { AreDistinct servers.now }
+    ensures { result ≡ row_words_of has_costs servers.now (count.now ∷ place.now ∷ words.old) }
+{
     let new_place = words.next_part()?;
     let permitted = words.next_part()?;
     Some(RowWords {

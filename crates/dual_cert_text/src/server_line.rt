@@ -1,4 +1,4 @@
-ghost use Rattle.std.specs.Prelude.{◌≡◌, ◌<◌, ◌≤◌, ◌∷◌, true, length, OnOk};
+ghost use Rattle.std.specs.Prelude.{◌≡◌, ◌<◌, ◌≤◌, ◌∷◌, [], true, length, OnOk};
 ghost use Rattle.std.specs.Option.{option_map_or};
 ghost use Rattle.dual_cert_text.specs.ServerLines.{AreDistinct, server_named, usage_of, server_words_of, in_range, server_at};
 
@@ -79,6 +79,13 @@ fn read_priced(first: &[u8], second: &[u8], words: &mut Parts) -> Option<Usage>
     if words.next_part().is_some() {
         return None;
     }
+    read_capped(first, second, third, fourth)
+}
+
+#[tactic(auto, unfolding(crate::specs::ServerLines::usage_of))]
+fn read_capped(first: &[u8], second: &[u8], third: &[u8], fourth: &[u8]) -> Option<Usage>
+    ensures { result ≡ usage_of true (first.now ∷ second.now ∷ third.now ∷ fourth.now ∷ []) }
+{
     let capacity = read_keyed(b"cap", first, second)?;
     let price = read_keyed(b"price", third, fourth)?;
     Some(Usage {

@@ -1,8 +1,8 @@
 -- What `verify --sheet` makes of the text of its sheet, before it reads the plan.
 use Rattle.std.specs.Prelude.{ℕ, List, [], ◌∷◌, ◌++◌, codes, Option, Some, None, Result, Ok, Err}
 use Rattle.dual_cert_plan.specs.Sheets.{SheetParts}
-use Rattle.dual_cert.specs.TextFault.{TextFault}
-use Rattle.dual_cert.specs.Faults.{fault_text}
+use Rattle.dual_cert_text.specs.declared.fault.TextFault.{TextFault}
+use Rattle.dual_cert_text.specs.Faults.{fault_text}
 
 -- the sheet, if one was read
 abbrev pub sheet_read : Result SheetParts TextFault → Option SheetParts

@@ -5,9 +5,9 @@ use Rattle.pin_set.specs.Rows.{AgreeingAreBest}
 use Rattle.cert_check_law.specs.Sheets.{sheet_room}
 use Rattle.dual_cert_plan.specs.Plans.{PlanParts}
 use Rattle.dual_cert_plan.specs.Sheets.{SheetParts}
-use Rattle.dual_cert.specs.TextFault.{TextFault}
-use Rattle.dual_cert.specs.Faults.{fault_text}
-use Rattle.dual_cert.specs.SheetTexts.{sheet_of_text}
+use Rattle.dual_cert_text.specs.declared.fault.TextFault.{TextFault}
+use Rattle.dual_cert_text.specs.Faults.{fault_text}
+use Rattle.dual_cert_sheet.specs.SheetTexts.{sheet_of_text}
 use Rattle.cert_check.specs.Verdict.{verdict}
 use Rattle.lb_cli_tables.specs.Tables.{tables_text}
 

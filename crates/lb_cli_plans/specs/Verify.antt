@@ -5,9 +5,9 @@ use Rattle.pin_set.specs.declared.totals.Score.{Score}
 use Rattle.pin_set.specs.Rows.{rows_score, AgreeingAreBest}
 use Rattle.cert_check_law.specs.Sheets.{sheet_room}
 use Rattle.dual_cert_plan.specs.Plans.{PlanParts, own_sheet}
-use Rattle.dual_cert.specs.TextFault.{TextFault}
-use Rattle.dual_cert.specs.Faults.{fault_text}
-use Rattle.dual_cert.specs.PlanTexts.{plan_of_text}
+use Rattle.dual_cert_text.specs.declared.fault.TextFault.{TextFault}
+use Rattle.dual_cert_text.specs.Faults.{fault_text}
+use Rattle.dual_cert_text.specs.PlanTexts.{plan_of_text}
 use Rattle.cert_check.specs.declared.fault.CheckFault.{CheckFault}
 use Rattle.cert_check.specs.Faults.{fault_text as check_fault_text}
 use Rattle.cert_check.specs.Verdict.{verdict, IsMadeFor}

@@ -3,7 +3,8 @@ ghost use Rattle.std.specs.String.{string_bytes};
 ghost use Rattle.lb_cli_plans.specs.Verify.{score_line, score_words, labelled, versions_line};
 
 use cert_check::{CheckFault, check};
-use dual_cert::{Plan, ReadError, Sheet, TextFault, read_plan};
+use dual_cert_plan::{Plan, Sheet};
+use dual_cert_text::{ReadError, TextFault, read_plan};
 use pin_set::Score;
 use std::alloc::{AllocError, Global};
 

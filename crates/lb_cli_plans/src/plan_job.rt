@@ -1,13 +1,16 @@
 ghost use Rattle.std.specs.Prelude.{◌≡◌, ◌++◌, ◌∷◌, [], ℕ, List, false, OnOk, IfOk, IfSome};
 ghost use Rattle.std.specs.Io.KnownBytes.{Appends};
 ghost use Rattle.lb_types_counted.specs.Writers.{WritesFront};
-ghost use Rattle.dual_cert.specs.Faults.{fault_text};
-ghost use Rattle.dual_cert.specs.SheetTexts.{sheet_of_text};
+ghost use Rattle.dual_cert_text.specs.Faults.{fault_text};
+ghost use Rattle.dual_cert_sheet.specs.SheetTexts.{sheet_of_text};
 ghost use Rattle.lb_cli_ends.specs.Hindered.{OnCannotWrite, OnNoAnswer};
 ghost use Rattle.lb_cli_plans.specs.Planning.{Answers, IsPlanFor, was_read};
 ghost use Rattle.lb_cli_plans.specs.Tables.{AreTablesFor, TellsTables};
 
-use dual_cert::{ReadError, Sheet, TextFault, read_sheet, write_plan};
+use dual_cert_plan::Sheet;
+use dual_cert_sheet::read_sheet;
+use dual_cert_text::{ReadError, TextFault};
+use dual_cert_write::write_plan;
 use flow_planner::plan as best_plan;
 use lb_cli_ends::{JobError, whole};
 use lb_cli_tables::tables_text;

@@ -1,6 +1,6 @@
 //! The commands with their help, as `clap` tells it.
-ghost use Rattle.std.specs.Prelude.{◌≡◌, IfOk, IsOkAnd, codes, false};
-ghost use Rattle.clap.specs.Words.{app_of, new_app, rule_of, with_rule, with_subcommand};
+ghost use Rattle.std.specs.Prelude.{◌≡◌, Some, IfOk, IsOkAnd, codes, false};
+ghost use Rattle.clap.specs.Words.{app_of, new_app, new_rule, rule_of, with_rule, with_subcommand};
 ghost use Rattle.clap.specs.declared.builder.command.Command.TheViews.{out-Command as fields_of};
 ghost use Rattle.lb_cli_words.specs.Clap.{check_app, commands_app, plain_app, plan_app, program_app, replay_app, run_app, verify_app};
 ghost use Rattle.lb_cli_words.specs.Clap.{file_option_rule, flag_rule, named_rule, operand_rule};
@@ -178,10 +178,15 @@ fn flag<'a>(alloc: Global, name: &'a str, help: &'a str) -> Arg<'a>
     ensures rule { rule_of result ≡ flag_rule name.now }
     ensures local { result.global ≡ false }
 {
-    Arg::new(alloc, name)
-        .help(help)
-        .long(name)
-        .action(ArgAction::SetTrue)
+    long(alloc, name, help).action(ArgAction::SetTrue)
+}
+
+/// An argument with a long name.
+fn long<'a>(alloc: Global, name: &'a str, help: &'a str) -> Arg<'a>
+    ensures rule { rule_of result ≡ record (new_rule name.now) { long = Some name.now } }
+    ensures local { result.global ≡ false }
+{
+    Arg::new(alloc, name).help(help).long(name)
 }
 
 /// The option `--sheet`, which names a file.

@@ -1,7 +1,7 @@
 use Rattle.std.proofs.Common.{◌≡◌, Ok, Some, ap, subst, ◌∙◌}
 use Rattle.pin_set.specs.Rows.{rows_score}
-use Rattle.dual_cert.specs.PlanTexts.{plan_of_text}
-use Rattle.dual_cert.specs.Spellings.{spelling}
+use Rattle.dual_cert_text.specs.PlanTexts.{plan_of_text}
+use Rattle.dual_cert_text.specs.Spellings.{spelling}
 use Rattle.dual_cert_plan.specs.Plans.{PlanParts}
 use Rattle.cert_check.proofs.Accepted.{accepted_best}
 use Rattle.lb_cli_plans.specs.Verify.{finding_of, finding_of_reading, finding_of_verdict}
