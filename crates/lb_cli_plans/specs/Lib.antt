@@ -1,5 +1,3 @@
-pub mod Asking
 pub mod Others
 pub mod Planning
 pub mod Tables
-pub mod Verify

@@ -10,8 +10,8 @@ use Rattle.dual_cert_text.specs.Faults.{fault_text}
 use Rattle.dual_cert_text.specs.Spellings.{spelling}
 use Rattle.dual_cert_sheet.specs.SheetTexts.{sheet_of_text}
 use Rattle.cert_check.specs.Verdict.{verdict}
-use Rattle.lb_cli_plans.specs.Verify.{finding_of}
-use Rattle.lb_cli_plans.specs.declared.finding.Finding.TheVariants.{Best}
+use Rattle.lb_cli_verify.specs.Verify.{finding_of}
+use Rattle.lb_cli_verify.specs.declared.finding.Finding.TheVariants.{Best}
 
 -- the text is that of a plan with the sheet's version; the check accepts this plan for the sheet, each assignment that agrees with
 -- it is best at the sheet's capacities, and `verify` finds the text best, with the same score

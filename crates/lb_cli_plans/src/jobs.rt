@@ -1,9 +1,10 @@
 ghost use Rattle.std.specs.Prelude.{◌≡◌};
 ghost use Rattle.lb_cli_plans.specs.Others.{given_back, other_than_plans};
 
-use crate::{plan, plan_tables, sheet_for, verify, verify_for, version};
+use crate::{plan, plan_tables, version};
 use dual_cert_plan::Sheet;
 use lb_cli_ends::{JobError, end, opened};
+use lb_cli_verify::{sheet_for, verify, verify_for};
 use lb_cli_words::Job;
 use lb_types::Counted;
 use std::alloc::Global;

@@ -4,7 +4,7 @@ use Rattle.dual_cert_text.specs.PlanTexts.{plan_of_text}
 use Rattle.dual_cert_text.specs.Spellings.{spelling}
 use Rattle.dual_cert_plan.specs.Plans.{PlanParts}
 use Rattle.cert_check.proofs.Accepted.{accepted_best}
-use Rattle.lb_cli_plans.specs.Verify.{finding_of, finding_of_reading, finding_of_verdict}
+use Rattle.lb_cli_verify.specs.Verify.{finding_of, finding_of_reading, finding_of_verdict}
 use Rattle.lb_cli_plans.proofs.Written.{whole_text}
 use Rattle.lb_cli_plans.proofs.plan_job.plan_text.Goals as goal
 

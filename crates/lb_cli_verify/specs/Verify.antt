@@ -12,8 +12,8 @@ use Rattle.cert_check.specs.declared.fault.CheckFault.{CheckFault}
 use Rattle.cert_check.specs.Faults.{fault_text as check_fault_text}
 use Rattle.cert_check.specs.Verdict.{verdict, IsMadeFor}
 use Rattle.dual_cert_plan.specs.Sheets.{SheetParts}
-use Rattle.lb_cli_plans.specs.declared.finding.Finding.{Finding}
-use Rattle.lb_cli_plans.specs.declared.finding.Finding.TheVariants.{Best, NoPlan, Refused, OtherVersion}
+use Rattle.lb_cli_verify.specs.declared.finding.Finding.{Finding}
+use Rattle.lb_cli_verify.specs.declared.finding.Finding.TheVariants.{Best, NoPlan, Refused, OtherVersion}
 
 -- what the checker says of a plan and the sheet that it speaks of
 abbrev pub finding_of_verdict : Result Score CheckFault → Finding

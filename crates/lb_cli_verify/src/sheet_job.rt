@@ -3,9 +3,9 @@ ghost use Rattle.std.specs.Io.KnownBytes.{Appends};
 ghost use Rattle.lb_types_counted.specs.Writers.{WritesFront};
 ghost use Rattle.dual_cert_text.specs.Faults.{fault_text};
 ghost use Rattle.dual_cert_sheet.specs.SheetTexts.{sheet_of_text};
-ghost use Rattle.lb_cli_plans.specs.Asking.{complaint_of, sheet_read};
+ghost use Rattle.lb_cli_verify.specs.Asking.{complaint_of, sheet_read};
 ghost use Rattle.lb_cli_ends.specs.Hindered.{OnCannotWrite, OnNoAnswer};
-ghost use Rattle.lb_cli_plans.specs.Verify.{finding_for, MeansBestFor, line_of};
+ghost use Rattle.lb_cli_verify.specs.Verify.{finding_for, MeansBestFor, line_of};
 
 use crate::Finding;
 use dual_cert_plan::Sheet;

@@ -1,6 +1,6 @@
 ghost use Rattle.std.specs.Prelude.{◌≡◌, IfOk};
 ghost use Rattle.std.specs.String.{string_bytes};
-ghost use Rattle.lb_cli_plans.specs.Verify.{score_line, score_words, labelled, versions_line};
+ghost use Rattle.lb_cli_verify.specs.Verify.{score_line, score_words, labelled, versions_line};
 
 use cert_check::{CheckFault, check};
 use dual_cert_plan::{Plan, Sheet};
@@ -25,7 +25,7 @@ impl Finding {
     ghost use Rattle.std.specs.Prelude.{◌≡◌, IfOk};
     ghost use Rattle.std.specs.String.{string_bytes};
     ghost use Rattle.cert_check.specs.Verdict.{verdict};
-    ghost use Rattle.lb_cli_plans.specs.Verify.{finding_of, finding_for, finding_at_versions, MeansBest, MeansBestFor, MeansIsBestFor, is_best, line_of};
+    ghost use Rattle.lb_cli_verify.specs.Verify.{finding_of, finding_for, finding_at_versions, MeansBest, MeansBestFor, MeansIsBestFor, is_best, line_of};
 
     /// What is found of the text. Takes the time of reading it, and memory of a few times its size.
     pub fn of(alloc: Global, text: &[u8]) -> Result<Finding, AllocError>

@@ -2,7 +2,7 @@ ghost use Rattle.std.specs.Prelude.{◌≡◌, OnOk, IfOk, IfSome};
 ghost use Rattle.std.specs.Io.KnownBytes.{Appends};
 ghost use Rattle.lb_types_counted.specs.Writers.{WritesFront};
 ghost use Rattle.lb_cli_ends.specs.Hindered.{OnCannotWrite, OnNoAnswer};
-ghost use Rattle.lb_cli_plans.specs.Verify.{finding_of, MeansBest, line_of};
+ghost use Rattle.lb_cli_verify.specs.Verify.{finding_of, MeansBest, line_of};
 
 use crate::Finding;
 use lb_cli_ends::{JobError, whole};

@@ -1,0 +1,15 @@
+//! The jobs of the program `stickylb` that judge plans: what is found of a plan's text, for itself or for a given sheet, and the line that
+//! tells it, each over a reader and a writer.
+//!
+//! Promised: `verify` writes the line of `specs/Verify.antt` for its text, and so does `verify_for`, by a sheet that `sheet_for` read, and
+//! nothing else. Of an answer that can't be written a beginning goes out, and nothing where a job comes to none. A plan that they call
+//! best is best. It stands on the checker and on no planner. Start at `verify`; whoever has the jobs has them from `lb_cli_plans`.
+#![tactic(auto)]
+
+mod finding;
+mod sheet_job;
+mod verify_job;
+
+pub use finding::Finding;
+pub use sheet_job::{sheet_for, verify_for};
+pub use verify_job::verify;
