@@ -135,7 +135,7 @@ def load(port: int, clients: int, seconds: int, cores: str, script: Sequence[str
     return Told(
         answered=int(re.search(r"(\d+) requests in", told)[1]),
         pace=float(re.search(r"Requests/sec:\s+([\d.]+)", told)[1]),
-        late=seconds_of(re.search(r"99%\s+(\S+)", told)[1]),
+        late=seconds_of(re.search(r"^\s+99%\s+(\S+)", told, re.M)[1]),
         latest=seconds_of(re.search(r"Latency\s+\S+\s+\S+\s+(\S+)", told)[1]),
         failed=failed + (int(refused[1]) if refused else 0),
     )
