@@ -1,4 +1,5 @@
-"""What a balancer is loaded with, and what it costs: `wrk` as clients, `nginx` as servers, on processors of their own where there are four."""
+"""What a balancer is loaded with, and what it costs: `wrk` as clients and `origin.c` as servers, on processors of their own where there are
+enough."""
 
 from __future__ import annotations
 
@@ -14,23 +15,10 @@ from collections.abc import Sequence
 from dataclasses import dataclass
 from pathlib import Path
 
-ROOT = Path(__file__).resolve().parent.parent
+BENCH = Path(__file__).resolve().parent
+ROOT = BENCH.parent
 ORIGINS = (18081, 18082)
 TICKS = os.sysconf("SC_CLK_TCK")
-
-ORIGIN = """
-worker_processes 2;
-daemon off;
-pid {folder}/origin.pid;
-error_log /dev/null;
-events {{ worker_connections 20000; }}
-http {{
-    access_log off;
-    server {{ listen 127.0.0.1:{first} backlog=4096; location / {{ return 200 "this is a\\n"; }} }}
-    server {{ listen 127.0.0.1:{second} backlog=4096; location / {{ return 200 "this is b\\n"; }} }}
-}}
-"""
-
 
 @dataclass(frozen=True)
 class Told:
@@ -109,10 +97,12 @@ def resident(process: int) -> float:
 
 
 def origins(folder: Path, cores: str) -> subprocess.Popen[bytes]:
-    """Two servers that answer at once, with a configuration in this folder."""
-    (folder / "origin.cfg").write_text(ORIGIN.format(folder=folder, first=ORIGINS[0], second=ORIGINS[1]))
-    running = started(["nginx", "-c", str(folder / "origin.cfg")], cores)
-    wait_for(ORIGINS[0])
+    """Two servers that answer at once, by `origin.c`, which is built in this folder."""
+    program = str(folder / "origin")
+    subprocess.run(["gcc", "-O2", "-Wall", "-pthread", "-o", program, str(BENCH / "origin.c")], check=True)
+    running = started([program, str(len(cores.split(","))), *map(str, ORIGINS)], cores)
+    for port in ORIGINS:
+        wait_for(port)
     return running
 
 
