@@ -61,7 +61,9 @@ def raise_files() -> None:
 
 
 def started(words: list[str], cores: str) -> subprocess.Popen[bytes]:
-    return subprocess.Popen(["taskset", "-c", cores, *words], stdin=subprocess.DEVNULL, stdout=subprocess.DEVNULL, start_new_session=True)
+    """Starts a program on these processors, in the session of this script: Linux shares a processor out between sessions, and servers in one
+    of their own wait for the clients beside them."""
+    return subprocess.Popen(["taskset", "-c", cores, *words], stdin=subprocess.DEVNULL, stdout=subprocess.DEVNULL)
 
 
 def wait_for(port: int) -> None:
