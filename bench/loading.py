@@ -61,8 +61,8 @@ def raise_files() -> None:
 
 
 def started(words: list[str], cores: str) -> subprocess.Popen[bytes]:
-    """Starts a program on these processors, in the session of this script: Linux shares a processor out between sessions, and servers in one
-    of their own wait for the clients beside them."""
+    """Starts a program on these processors, in the session of this script: Linux shares a processor out between sessions, so with sessions of
+    their own clients and servers would get other shares of theirs."""
     return subprocess.Popen(["taskset", "-c", cores, *words], stdin=subprocess.DEVNULL, stdout=subprocess.DEVNULL)
 
 
