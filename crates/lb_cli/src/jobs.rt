@@ -1,9 +1,11 @@
-ghost use Rattle.std.specs.Prelude.{◌≡◌, Some};
-ghost use Rattle.lb_cli_plans.specs.Others.{other_than_plans};
+ghost use Rattle.std.specs.Prelude.{◌≡◌, false};
+ghost use Rattle.lb_cli_plans.specs.Jobs.{plans_or_tells_version};
+ghost use Rattle.lb_cli_verify.specs.Jobs.{judges_plan};
 
 use crate::check;
 use lb_cli_ends::{JobError, end, opened, whole};
-use lb_cli_plans::{Planned, perform_plan};
+use lb_cli_plans::perform_plan;
+use lb_cli_verify::perform_verify;
 use lb_cli_words::Job;
 use lb_replay::replay;
 use lb_types::Counted;
@@ -30,9 +32,13 @@ pub fn perform<'a, R: Files, O: Write, E: Write>(
     out: &mut O,
     err: &mut E,
 ) -> Performed<'a> {
+    let job = match perform_verify(alloc, rt, job, out, err) {
+        Ok(status) => return Performed::Ended(status),
+        Err(job) => job,
+    };
     match perform_plan(alloc, rt, job, out, err) {
-        Planned::Ended(status) => Performed::Ended(status),
-        Planned::Other(job) => perform_other(alloc, rt, job, out, err),
+        Ok(status) => Performed::Ended(status),
+        Err(job) => perform_other(alloc, rt, job, out, err),
     }
 }
 
@@ -44,7 +50,8 @@ fn perform_other<'a, R: Files, O: Write, E: Write>(
     out: &mut O,
     err: &mut E,
 ) -> Performed<'a>
-    requires { other_than_plans job ≡ Some job }
+    requires judges_none { judges_plan job ≡ false }
+    requires plans_none { plans_or_tells_version job ≡ false }
 {
     let mut out = Counted::new(out);
     let (file, done) = match job {

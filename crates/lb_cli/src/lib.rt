@@ -3,16 +3,18 @@
 //!
 //! Promised: `check` writes the report of `specs/Checking.antt` for its configuration, and nothing else. Of a report that can't be
 //! written a beginning goes out, and nothing where the job comes to none. Start there, and at `perform`, which finds the job's files
-//! and tells the program's exit status, that of `status_of`. The jobs on sheets and plans are those of `lb_cli_plans`, and `replay` is
-//! that of `lb_replay`; whoever uses this crate has the former from here.
+//! and tells the program's exit status, that of `status_of`. The jobs on sheets and plans are those of `lb_cli_plans` and
+//! `lb_cli_verify`, which whoever uses this crate has from here; `plans_are_verified` says that what the former write is best for the
+//! latter too. `replay` is that of `lb_replay`.
 #![tactic(auto)]
 
 mod check_job;
 mod jobs;
+mod laws;
 
 pub use check_job::check;
 pub use jobs::{Performed, perform};
+pub use laws::plans_are_verified;
 pub use lb_cli_ends::{JobError, end, status_of};
-pub use lb_cli_plans::{
-    Finding, VERSION, plan, plan_tables, sheet_for, verify, verify_for, version,
-};
+pub use lb_cli_plans::{VERSION, plan, plan_tables, version};
+pub use lb_cli_verify::{Finding, sheet_for, verify, verify_for};

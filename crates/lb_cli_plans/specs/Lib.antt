@@ -1,3 +1,3 @@
-pub mod Others
+pub mod Jobs
 pub mod Planning
 pub mod Tables

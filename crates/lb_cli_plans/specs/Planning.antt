@@ -3,26 +3,27 @@ use Rattle.std.specs.Prelude.{◌≡◌, ℕ, Bool, true, false, List, [], ◌�
 use Rattle.pin_set.specs.declared.totals.Score.{Score}
 use Rattle.pin_set.specs.Rows.{AgreeingAreBest}
 use Rattle.cert_check_law.specs.Sheets.{sheet_room}
-use Rattle.dual_cert_plan.specs.Plans.{PlanParts}
+use Rattle.dual_cert_plan.specs.Plans.{PlanParts, own_sheet}
 use Rattle.dual_cert_plan.specs.Sheets.{SheetParts}
 use Rattle.dual_cert_text.specs.declared.fault.TextFault.{TextFault}
 use Rattle.dual_cert_text.specs.Faults.{fault_text}
+use Rattle.dual_cert_text.specs.PlanTexts.{plan_of_text}
 use Rattle.dual_cert_text.specs.Spellings.{spelling}
 use Rattle.dual_cert_sheet.specs.SheetTexts.{sheet_of_text}
 use Rattle.cert_check.specs.Verdict.{verdict}
-use Rattle.lb_cli_verify.specs.Verify.{finding_of}
-use Rattle.lb_cli_verify.specs.declared.finding.Finding.TheVariants.{Best}
 
--- the text is that of a plan with the sheet's version; the check accepts this plan for the sheet, each assignment that agrees with
--- it is best at the sheet's capacities, and `verify` finds the text best, with the same score
+-- the text is that of a plan with the sheet's version; the check accepts this plan for the sheet, and each assignment that agrees with
+-- it is best at the sheet's capacities. The text reads as this plan, and the check accepts it for its own sheet too, with the same
+-- score: that is what `verify` looks at
 pub record IsPlanFor (sheet : SheetParts) (text : List ℕ) : Type 0 where
   pub plan : PlanParts
   pub spelled : text ≡ spelling plan
+  pub read_back : plan_of_text text ≡ Ok plan
   pub version : plan.version ≡ sheet.version
   pub score : Score
   pub accepted : verdict sheet plan ≡ Ok score
   pub best : AgreeingAreBest (sheet_room sheet) plan.rows
-  pub verified : finding_of text ≡ Best score
+  pub accepted_alone : verdict (own_sheet plan) plan ≡ Ok score
 
 -- what is written for a sheet that was read, or for the first fault of its text
 abbrev pub AnswersReading : Result SheetParts TextFault → List ℕ → Type 0

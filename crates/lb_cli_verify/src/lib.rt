@@ -3,13 +3,16 @@
 //!
 //! Promised: `verify` writes the line of `specs/Verify.antt` for its text, and so does `verify_for`, by a sheet that `sheet_for` read, and
 //! nothing else. Of an answer that can't be written a beginning goes out, and nothing where a job comes to none. A plan that they call
-//! best is best. It stands on the checker and on no planner. Start at `verify`; whoever has the jobs has them from `lb_cli_plans`.
+//! best is best. It stands on the checker and on no planner. Start at `verify`, and at `perform_verify`, which finds the job's files and
+//! tells the program's exit status, or gives a job back that judges no plan.
 #![tactic(auto)]
 
 mod finding;
+mod jobs;
 mod sheet_job;
 mod verify_job;
 
 pub use finding::Finding;
+pub use jobs::perform_verify;
 pub use sheet_job::{sheet_for, verify_for};
 pub use verify_job::verify;

@@ -8,7 +8,7 @@ use lb_config_keywords::{
     is_left_out, read_bare_end, read_http_check, read_last_time, read_stats_socket, read_tuning,
 };
 
-/// How many connections of each `bind` may be served at a time (`tune.relays`).
+/// How many connections may be served at a time, of all `bind` lines together (`tune.relays`).
 pub const MAX_RELAYS: u64 = 64;
 
 /// How many plans may be tried while the table changes (`tune.tries`).

@@ -4,7 +4,6 @@ use Rattle.dual_cert_text.specs.PlanTexts.{plan_of_text}
 use Rattle.dual_cert_text.specs.Spellings.{spelling}
 use Rattle.dual_cert_plan.specs.Plans.{PlanParts}
 use Rattle.cert_check.proofs.Accepted.{accepted_best}
-use Rattle.lb_cli_verify.specs.Verify.{finding_of, finding_of_reading, finding_of_verdict}
 use Rattle.lb_cli_plans.proofs.Written.{whole_text}
 use Rattle.lb_cli_plans.proofs.plan_job.plan_text.Goals as goal
 
@@ -20,9 +19,10 @@ returns-in-Ok c =
     record {
       plan = plan;
       spelled = text_is;
+      read_back = ap plan_of_text text_is ∙ reads;
       version = c.in_ok-planned.ensures.version;
       score = rows_score plan.rows;
       accepted = known.accepted;
       best = accepted_best c.args.sheet.now plan (rows_score plan.rows) known.lawful known.accepted;
-      verified = ap finding_of text_is ∙ ap finding_of_reading reads ∙ ap finding_of_verdict c.plan-2.ensures.accepted.accepted;
+      accepted_alone = c.plan-2.ensures.accepted.accepted;
     }
