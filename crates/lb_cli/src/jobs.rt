@@ -1,11 +1,7 @@
-ghost use Rattle.std.specs.Prelude.{◌≡◌, false};
-ghost use Rattle.lb_cli_plans.specs.Jobs.{plans_or_tells_version};
-ghost use Rattle.lb_cli_verify.specs.Jobs.{judges_plan};
-
 use crate::check;
 use lb_cli_ends::{JobError, end, opened, whole};
-use lb_cli_plans::perform_plan;
-use lb_cli_verify::perform_verify;
+use lb_cli_plans::{plan_file, tables_file, tell_version};
+use lb_cli_verify::{verify_file, verify_files};
 use lb_cli_words::Job;
 use lb_replay::replay;
 use lb_types::Counted;
@@ -32,46 +28,56 @@ pub fn perform<'a, R: Files, O: Write, E: Write>(
     out: &mut O,
     err: &mut E,
 ) -> Performed<'a> {
-    let job = match perform_verify(alloc, rt, job, out, err) {
-        Ok(status) => return Performed::Ended(status),
-        Err(job) => job,
+    let status = match job {
+        Job::Verify { file } => verify_file(alloc, rt, file, out, err),
+        Job::VerifyForSheet { sheet, plan } => verify_files(alloc, rt, sheet, plan, out, err),
+        Job::Plan { file } => plan_file(alloc, rt, file, out, err),
+        Job::PlanTable { file } => tables_file(alloc, rt, file, out, err),
+        Job::Version => tell_version(out, err),
+        Job::Check { file } => check_file(alloc, rt, file, out, err),
+        Job::Replay { config, script } => replay_files(alloc, rt, config, script, out, err),
+        Job::Run { file } => match whole_file(alloc, rt, file) {
+            Ok(text) => return Performed::Run { file, text },
+            Err(error) => end(Err(error), file, err),
+        },
     };
-    match perform_plan(alloc, rt, job, out, err) {
-        Ok(status) => Performed::Ended(status),
-        Err(job) => perform_other(alloc, rt, job, out, err),
+    Performed::Ended(status)
+}
+
+/// Does the job `check`.
+fn check_file<R: Files, O: Write, E: Write>(
+    alloc: Global,
+    rt: &R,
+    path: &str,
+    out: &mut O,
+    err: &mut E,
+) -> u8 {
+    let mut out = Counted::new(out);
+    end(is_valid_config(alloc, rt, path, &mut out), path, err)
+}
+
+/// Does the job `replay`: the one file's script at the backend of the other's configuration, which is judged before anything else is
+/// told.
+fn replay_files<R: Files, O: Write, E: Write>(
+    alloc: Global,
+    rt: &R,
+    config_path: &str,
+    script_path: &str,
+    out: &mut O,
+    err: &mut E,
+) -> u8 {
+    let mut out = Counted::new(out);
+    match whole_file(alloc, rt, config_path) {
+        Ok(config) => {
+            let done = replay_file(alloc, rt, &config, script_path, &mut out, err);
+            end(done, script_path, err)
+        }
+        Err(error) => end(Err(error), config_path, err),
     }
 }
 
-/// Does a job that needs a configuration.
-fn perform_other<'a, R: Files, O: Write, E: Write>(
-    alloc: Global,
-    rt: &R,
-    job: Job<'a>,
-    out: &mut O,
-    err: &mut E,
-) -> Performed<'a>
-    requires judges_none { judges_plan job ≡ false }
-    requires plans_none { plans_or_tells_version job ≡ false }
-{
-    let mut out = Counted::new(out);
-    let (file, done) = match job {
-        Job::Check { file } => (file, check_file(alloc, rt, file, &mut out)),
-        Job::Replay { config, script } => replay_files(alloc, rt, config, script, &mut out, err),
-        Job::Run { file } => match whole_file(alloc, rt, file) {
-            Ok(text) => return Performed::Run { file, text },
-            Err(error) => (file, Err(error)),
-        },
-        Job::Verify { .. }
-        | Job::VerifyForSheet { .. }
-        | Job::Plan { .. }
-        | Job::PlanTable { .. }
-        | Job::Version => unreachable!(),
-    };
-    Performed::Ended(end(done, file, err))
-}
-
 /// Whether the file's configuration is valid.
-fn check_file<R: Files, O: Write>(
+fn is_valid_config<R: Files, O: Write>(
     alloc: Global,
     rt: &R,
     path: &str,
@@ -79,25 +85,6 @@ fn check_file<R: Files, O: Write>(
 ) -> Result<bool, JobError> {
     let mut file = opened(rt, path)?;
     check(alloc, &mut file, out)
-}
-
-/// Whether nothing hindered the replay of the one file's script at the backend of the other's configuration, which is judged before
-/// anything else is told. Beside that stands the file that the error is of, if there is one.
-fn replay_files<'a, R: Files, O: Write, E: Write>(
-    alloc: Global,
-    rt: &R,
-    config_path: &'a str,
-    script_path: &'a str,
-    out: &mut Counted<O>,
-    err: &mut E,
-) -> (&'a str, Result<bool, JobError>) {
-    match whole_file(alloc, rt, config_path) {
-        Ok(config) => (
-            script_path,
-            replay_file(alloc, rt, &config, script_path, out, err),
-        ),
-        Err(error) => (config_path, Err(error)),
-    }
 }
 
 fn whole_file<R: Files>(alloc: Global, rt: &R, path: &str) -> Result<Vec<u8>, JobError> {

@@ -3,14 +3,14 @@
 //!
 //! Promised: `plan` writes an answer of `specs/Planning.antt` for its sheet, and `plan_tables` one of `specs/Tables.antt`, and nothing
 //! else. Of an answer that can't be written a beginning goes out, and nothing where a job comes to none. A plan that they write is best.
-//! The jobs that judge plans are those of `lb_cli_verify`. Start at `plan`, and at `perform_plan`, which finds the job's file and tells
-//! the program's exit status, or gives a job back that is none of these.
+//! The jobs that judge plans are those of `lb_cli_verify`. Start at `plan`, and at `plan_file`, which finds the job's file and tells the
+//! program's exit status.
 #![tactic(auto)]
 
 mod jobs;
 mod plan_job;
 mod version_job;
 
-pub use jobs::perform_plan;
+pub use jobs::{plan_file, tables_file, tell_version};
 pub use plan_job::{plan, plan_tables};
 pub use version_job::{VERSION, version};

@@ -1,3 +1,2 @@
 pub mod Asking
-pub mod Jobs
 pub mod Verify

@@ -1,43 +1,48 @@
-ghost use Rattle.std.specs.Prelude.{◌≡◌, is_ok, IfErr};
-ghost use Rattle.lb_cli_verify.specs.Jobs.{judges_plan};
-
 use crate::{sheet_for, verify, verify_for};
 use dual_cert_plan::Sheet;
 use lb_cli_ends::{JobError, end, opened};
-use lb_cli_words::Job;
 use lb_types::Counted;
 use std::alloc::Global;
 use std::io::Write;
 use std::rt::Files;
 
-/// Does the job where it judges a plan, with its answer on `out` and what hindered it on `err`, and tells the program's exit status,
-/// that of `end`. Any other job it gives back, and nothing was done.
-pub fn perform_verify<'a, R: Files, O: Write, E: Write>(
+/// Does the job `verify` on the plan in the file, with its answer on `out` and what hindered it on `err`, and tells the program's exit
+/// status, that of `end`.
+pub fn verify_file<R: Files, O: Write, E: Write>(
     alloc: Global,
     rt: &R,
-    job: Job<'a>,
+    path: &str,
     out: &mut O,
     err: &mut E,
-) -> Result<u8, Job<'a>>
-    ensures done { is_ok result ≡ judges_plan job.entry }
-    ensures given_back { IfErr result (λ other. other ≡ job.entry) }
-{
+) -> u8 {
     let mut out = Counted::new(out);
-    let (file, done) = match job {
-        Job::Verify { file } => (file, verify_file(alloc, rt, file, &mut out)),
-        Job::VerifyForSheet { sheet, plan } => verify_files(alloc, rt, sheet, plan, &mut out),
-        Job::Plan { .. }
-        | Job::PlanTable { .. }
-        | Job::Check { .. }
-        | Job::Replay { .. }
-        | Job::Run { .. }
-        | Job::Version => return Err(job),
-    };
-    Ok(end(done, file, err))
+    end(is_best_plan(alloc, rt, path, &mut out), path, err)
+}
+
+/// Does the job `verify --sheet` on the plan in the one file for the sheet in the other, as `verify_file` does. The sheet is judged before
+/// the plan is opened.
+pub fn verify_files<R: Files, O: Write, E: Write>(
+    alloc: Global,
+    rt: &R,
+    sheet_path: &str,
+    plan_path: &str,
+    out: &mut O,
+    err: &mut E,
+) -> u8 {
+    let mut out = Counted::new(out);
+    match read_sheet_file(alloc, rt, sheet_path, &mut out) {
+        Ok(Some(sheet)) => end(
+            is_best_plan_for(alloc, rt, &sheet, plan_path, &mut out),
+            plan_path,
+            err,
+        ),
+        Ok(None) => end(Ok(false), sheet_path, err),
+        Err(error) => end(Err(error), sheet_path, err),
+    }
 }
 
 /// Whether the file's plan is best.
-fn verify_file<R: Files, O: Write>(
+fn is_best_plan<R: Files, O: Write>(
     alloc: Global,
     rt: &R,
     path: &str,
@@ -47,24 +52,8 @@ fn verify_file<R: Files, O: Write>(
     Ok(verify(alloc, &mut file, out)?.is_best())
 }
 
-/// Whether the plan in the one file is best for the sheet in the other. The sheet is judged before the plan is opened.
-/// Beside that stands the file that the error is of, if there is one.
-fn verify_files<'a, R: Files, O: Write>(
-    alloc: Global,
-    rt: &R,
-    sheet_path: &'a str,
-    plan_path: &'a str,
-    out: &mut Counted<O>,
-) -> (&'a str, Result<bool, JobError>) {
-    match sheet_file(alloc, rt, sheet_path, out) {
-        Ok(Some(sheet)) => (plan_path, plan_file_for(alloc, rt, &sheet, plan_path, out)),
-        Ok(None) => (sheet_path, Ok(false)),
-        Err(error) => (sheet_path, Err(error)),
-    }
-}
-
 /// The file's sheet, where its text is one.
-fn sheet_file<R: Files, O: Write>(
+fn read_sheet_file<R: Files, O: Write>(
     alloc: Global,
     rt: &R,
     path: &str,
@@ -75,7 +64,7 @@ fn sheet_file<R: Files, O: Write>(
 }
 
 /// Whether the file's plan is best for the sheet.
-fn plan_file_for<R: Files, O: Write>(
+fn is_best_plan_for<R: Files, O: Write>(
     alloc: Global,
     rt: &R,
     sheet: &Sheet,

@@ -3,8 +3,8 @@
 //!
 //! Promised: `verify` writes the line of `specs/Verify.antt` for its text, and so does `verify_for`, by a sheet that `sheet_for` read, and
 //! nothing else. Of an answer that can't be written a beginning goes out, and nothing where a job comes to none. A plan that they call
-//! best is best. It stands on the checker and on no planner. Start at `verify`, and at `perform_verify`, which finds the job's files and
-//! tells the program's exit status, or gives a job back that judges no plan.
+//! best is best. It stands on the checker, and on no planner and no command line, so that it is proved while these are. Start at `verify`,
+//! and at `verify_file`, which finds the job's file and tells the program's exit status.
 #![tactic(auto)]
 
 mod finding;
@@ -13,6 +13,6 @@ mod sheet_job;
 mod verify_job;
 
 pub use finding::Finding;
-pub use jobs::perform_verify;
+pub use jobs::{verify_file, verify_files};
 pub use sheet_job::{sheet_for, verify_for};
 pub use verify_job::verify;

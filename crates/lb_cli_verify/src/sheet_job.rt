@@ -1,5 +1,6 @@
 ghost use Rattle.std.specs.Prelude.{◌≡◌, ◌++◌, ◌∷◌, [], codes, OnOk, IfOk, IfSome};
 ghost use Rattle.std.specs.Io.KnownBytes.{Appends};
+ghost use Rattle.std.specs.String.{string_bytes};
 ghost use Rattle.lb_types_counted.specs.Writers.{WritesFront};
 ghost use Rattle.dual_cert_text.specs.Faults.{fault_text};
 ghost use Rattle.dual_cert_sheet.specs.SheetTexts.{sheet_of_text};
@@ -8,6 +9,7 @@ ghost use Rattle.lb_cli_ends.specs.Hindered.{OnCannotWrite, OnNoAnswer};
 ghost use Rattle.lb_cli_verify.specs.Verify.{finding_for, MeansBestFor, line_of};
 
 use crate::Finding;
+use crate::verify_job::tell;
 use dual_cert_plan::Sheet;
 use dual_cert_sheet::read_sheet;
 use dual_cert_text::{ReadError, TextFault};
@@ -73,19 +75,25 @@ pub fn verify_for<R: Read, W: Write>(
 {
     let text = whole(alloc, file)?;
     let finding = Finding::for_sheet(alloc, sheet, &text)?;
-    let line = finding.line(alloc)?;
-    match out.write_all(line.as_bytes()) {
-        Ok(()) => Ok(finding),
-        Err(_) => Err(JobError::CannotWrite),
-    }
+    tell(alloc, finding, out)?;
+    Ok(finding)
 }
 
-/// The fault of a sheet's text, with its line end.
+/// The fault of a sheet's text, named so, with its line end.
 fn complaint(alloc: Global, fault: TextFault) -> Result<Vec<u8>, AllocError>
     ensures { IfOk result (λ line. line.items ≡ codes "sheet " ++ fault_text fault ++ 10 ∷ []) }
 {
+    let fault = fault_line(alloc, fault)?;
     let mut line = Vec::from_slice(alloc, b"sheet ")?;
-    line.extend_from_slice(fault.text(alloc)?.as_bytes())?;
-    line.push(b'\n')?;
+    line.extend_from_slice(fault.as_bytes())?;
+    Ok(line)
+}
+
+/// The fault of a text, with its line end.
+fn fault_line(alloc: Global, fault: TextFault) -> Result<String, AllocError>
+    ensures { IfOk result (λ line. string_bytes line ≡ fault_text fault ++ 10 ∷ []) }
+{
+    let mut line = fault.text(alloc)?;
+    line.push('\n')?;
     Ok(line)
 }

@@ -32,9 +32,23 @@ pub fn verify<R: Read, W: Write>(
 {
     let text = whole(alloc, file)?;
     let finding = Finding::of(alloc, &text)?;
+    tell(alloc, finding, out)?;
+    Ok(finding)
+}
+
+/// Writes the finding's line.
+pub(crate) fn tell<W: Write>(
+    alloc: Global,
+    finding: Finding,
+    out: &mut Counted<W>,
+) -> Result<(), JobError>
+    ensures written { OnOk result (Appends out.old.contents out.new.contents (line_of finding)) }
+    ensures cut { OnCannotWrite result (WritesFront out.old out.new (line_of finding)) }
+    ensures silent { OnNoAnswer result (out.new ≡ out.old) }
+{
     let line = finding.line(alloc)?;
     match out.write_all(line.as_bytes()) {
-        Ok(()) => Ok(finding),
+        Ok(()) => Ok(()),
         Err(_) => Err(JobError::CannotWrite),
     }
 }

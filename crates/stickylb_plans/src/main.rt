@@ -2,9 +2,10 @@
 //! `lb_cli_start` has the words of the command line read, and `lb_cli_verify` or `lb_cli_plans` does the job that they ask for.
 #![tactic(auto)]
 
-use lb_cli_plans::perform_plan;
+use lb_cli_plans::{plan_file, tables_file, tell_version};
 use lb_cli_start::{asked_job, command_line, texts_of};
-use lb_cli_verify::perform_verify;
+use lb_cli_verify::{verify_file, verify_files};
+use lb_cli_words::Job;
 use std::process::ExitCode;
 
 fn main(rt: HostRuntime) -> ExitCode {
@@ -18,15 +19,27 @@ fn perform_words(rt: &HostRuntime) -> Result<u8, u8> {
     let words = command_line(rt)?;
     let texts = texts_of(rt, &words)?;
     let job = asked_job(rt, &texts)?;
-    let job = match perform_verify(rt.alloc(), rt, job, &mut rt.stdout(), &mut rt.stderr()) {
-        Ok(status) => return Ok(status),
-        Err(job) => job,
-    };
-    match perform_plan(rt.alloc(), rt, job, &mut rt.stdout(), &mut rt.stderr()) {
-        Ok(status) => Ok(status),
-        Err(_) => {
+    match perform(rt, job) {
+        Some(status) => Ok(status),
+        None => {
             let _ = eprintln!(rt; "this program has no such job: run stickylb");
             Err(2)
         }
+    }
+}
+
+/// Does a job on sheets and plans, or tells the version, and gives the exit status. None where the job needs a configuration.
+fn perform(rt: &HostRuntime, job: Job<'_>) -> Option<u8> {
+    let alloc = rt.alloc();
+    let (out, err) = (&mut rt.stdout(), &mut rt.stderr());
+    match job {
+        Job::Verify { file } => Some(verify_file(alloc, rt, file, out, err)),
+        Job::VerifyForSheet { sheet, plan } => {
+            Some(verify_files(alloc, rt, sheet, plan, out, err))
+        }
+        Job::Plan { file } => Some(plan_file(alloc, rt, file, out, err)),
+        Job::PlanTable { file } => Some(tables_file(alloc, rt, file, out, err)),
+        Job::Version => Some(tell_version(out, err)),
+        Job::Check { .. } | Job::Replay { .. } | Job::Run { .. } => None,
     }
 }
