@@ -1,3 +1,4 @@
+use crate::ClientListener;
 use http_relay_socket::StreamLimits;
 use std::io;
 use std::net::{Net, SocketAddr, SocketAddrV4, TcpListener, TcpStream};
@@ -17,16 +18,17 @@ pub fn listen<R: Net>(rt: &R, address: SocketAddrV4) -> io::Result<TcpListener> 
 }
 
 /// Listens at this address as `listen` does, but that its accepts don't wait: one ends as `WouldBlock` where nobody waits to be accepted.
-/// What it accepts has these limits on reads and writes, which are set here once and cost no connection a call of the system.
+/// What it accepts doesn't block, and has these limits on reads and writes for calls that do, once it is set to: they are set here once
+/// and cost no connection a call of the system.
 pub fn listen_within<R: Net>(
     rt: &R,
     address: SocketAddrV4,
     limits: StreamLimits,
-) -> io::Result<TcpListener> {
+) -> io::Result<ClientListener> {
     let socket = bound(rt, address)?;
     // The system gives a connection the options of the socket that accepted it.
     limits.set(&socket)?;
-    Ok(TcpListener::from(OwnedFd::from(socket)))
+    Ok(ClientListener::new(TcpListener::from(OwnedFd::from(socket))))
 }
 
 // A listening socket, whose accepts don't wait. Only streams have calls that set its options.

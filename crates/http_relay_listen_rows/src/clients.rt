@@ -1,9 +1,9 @@
-use crate::site::{LONG, any_port, connect_all, patience, rules, take_all};
-use http_relay_listen::{listen, listen_within};
+use crate::site::{LONG, NONE, any_port, connect_all, patience, rules, take_all};
+use http_relay_listen::listen_within;
 use http_relay_lobby::{Arrival, Rules, gather_until_stopped, waiting_line};
 use http_relay_socket::StreamLimits;
-use std::io::Write;
-use std::net::{Ipv4Addr, TcpStream};
+use std::io::{ErrorKind, Read, Write};
+use std::net::{Ipv4Addr, OpenListener, TcpStream};
 use std::sync::atomic::{AtomicBool, Ordering};
 use std::test::Fail;
 use std::thread::join;
@@ -77,10 +77,31 @@ fn connections_have_their_limits(rt: HostRuntime) -> Result<(), Fail> {
     Ok(())
 }
 
+// What is accepted is the connection of the client who is told, and a read of it doesn't wait. Where nobody waits no accept does.
+#[test]
+fn accepted_connections_do_not_block(rt: HostRuntime) -> Result<(), Fail> {
+    let listener = listen_within(&rt, any_port(), NONE)?;
+    let nobody = match listener.accept() {
+        Ok(_) => None,
+        Err(error) => Some(error.kind()),
+    };
+    let client = TcpStream::connect(&rt, listener.local_addr()?)?;
+    let (mut stream, address) = listener.accept()?;
+    let nothing = stream.read(&mut [0]).map_err(|error| error.kind());
+    assert!(rt;
+        nobody == Some(ErrorKind::WouldBlock)
+            && address == client.local_addr()?
+            && address == stream.peer_addr()?
+            && nothing == Err(ErrorKind::WouldBlock),
+        "{address}, {nothing:?}"
+    );
+    Ok(())
+}
+
 // A stop is seen soon, also where clients may be silent for long. Then the listener is closed, and the line has an end.
 #[test]
 fn a_stop_ends_the_listener_and_the_line(rt: HostRuntime) -> Result<(), Fail> {
-    let listener = listen(&rt, any_port())?;
+    let listener = listen_within(&rt, any_port(), LONG)?;
     let address = listener.local_addr()?;
     let (to, from) = waiting_line(rt.alloc())?;
     let stop = AtomicBool::new(false);
@@ -104,7 +125,7 @@ fn a_stop_ends_the_listener_and_the_line(rt: HostRuntime) -> Result<(), Fail> {
 // So many clients come before anything is accepted, and all of them are handed on though no worker takes one meanwhile.
 #[test]
 fn two_hundred_clients_are_handed_on(rt: HostRuntime) -> Result<(), Fail> {
-    let listener = listen(&rt, any_port())?;
+    let listener = listen_within(&rt, any_port(), LONG)?;
     let clients = connect_all(&rt, listener.local_addr()?, 200, REQUEST)?;
     let (to, from) = waiting_line(rt.alloc())?;
     let stop = AtomicBool::new(false);

@@ -1,11 +1,12 @@
 use crate::site::{LONG, NONE, any_port, patience, rules};
 use crossbeam_channel::Receiver;
-use http_relay_listen::listen;
+use http_relay_listen::{ClientListener, listen_within};
 use http_relay_lobby::{Arrival, gather_until_stopped, waiting_line};
 use http_relay_socket::StreamLimits;
 use http_relay_wire::WireFault;
 use std::io::{Read, Write};
-use std::net::{Net, Shutdown, SocketAddr, TcpStream};
+use std::net::{Net, OpenListener, Shutdown, SocketAddr, TcpStream};
+use std::os::fd::{AsRawFd, RawFd};
 use std::sync::Wait;
 use std::sync::atomic::{AtomicBool, Ordering};
 use std::test::Fail;
@@ -67,7 +68,7 @@ fn come_in_turn<R: Wait + Clock + Net<Stream = TcpStream>>(
 // A head that isn't whole waits for its bytes, and hinders no other.
 #[test]
 fn a_slow_head_hinders_no_other(rt: HostRuntime) -> Result<(), Fail> {
-    let listener = listen(&rt, any_port())?;
+    let listener = listen_within(&rt, any_port(), LONG)?;
     let address = listener.local_addr()?;
     let (to, from) = waiting_line(rt.alloc())?;
     let stop = AtomicBool::new(false);
@@ -109,7 +110,7 @@ fn are_dismissed<R: Wait + Clock + Net<Stream = TcpStream>>(
 // Each byte begins the limit anew. The lobby reads its clock in whole milliseconds, so that a limit may end within one of them before its time.
 #[test]
 fn a_silent_client_is_dismissed(rt: HostRuntime) -> Result<(), Fail> {
-    let listener = listen(&rt, any_port())?;
+    let listener = listen_within(&rt, any_port(), SHORT)?;
     let address = listener.local_addr()?;
     let (to, from) = waiting_line(rt.alloc())?;
     let stop = AtomicBool::new(false);
@@ -160,7 +161,7 @@ fn oldest_goes<R: Wait + Clock + Net<Stream = TcpStream>>(
 // a limit are closed without an answer.
 #[test]
 fn the_oldest_leaves_a_full_lobby(rt: HostRuntime) -> Result<(), Fail> {
-    let listener = listen(&rt, any_port())?;
+    let listener = listen_within(&rt, any_port(), NONE)?;
     let address = listener.local_addr()?;
     let (to, from) = waiting_line(rt.alloc())?;
     let stop = AtomicBool::new(false);
@@ -198,7 +199,7 @@ fn stopped_within<R: Wait + Clock + Net<Stream = TcpStream>>(
 #[test]
 fn a_stop_leaves_guests_their_limit(rt: HostRuntime) -> Result<(), Fail> {
     for (limits, wanted) in [(SHORT, (true, true, true)), (NONE, (false, true, true))] {
-        let listener = listen(&rt, any_port())?;
+        let listener = listen_within(&rt, any_port(), limits)?;
         let address = listener.local_addr()?;
         let (to, from) = waiting_line(rt.alloc())?;
         let stop = AtomicBool::new(false);
@@ -210,6 +211,51 @@ fn a_stop_leaves_guests_their_limit(rt: HostRuntime) -> Result<(), Fail> {
         gathered?;
         let ends = ends?;
         assert!(rt; ends == wanted, "{limits:?}, {ends:?}");
+    }
+    Ok(())
+}
+
+/// A listener that sets the flag with each connection that it accepts.
+#[derive(Drop)]
+struct LastCall<'a> {
+    inner: ClientListener,
+    stop: &'a AtomicBool,
+}
+
+impl<'a> AsRawFd for LastCall<'a> {
+    fn as_raw_fd(&self) -> RawFd {
+        self.inner.as_raw_fd()
+    }
+}
+
+impl<'a> OpenListener for LastCall<'a> {
+    type Stream = TcpStream;
+
+    fn set_nonblocking(&self, nonblocking: bool) -> io::Result<()> {
+        self.inner.set_nonblocking(nonblocking)
+    }
+
+    fn accept(&self) -> io::Result<(TcpStream, SocketAddr)> {
+        let accepted = self.inner.accept()?;
+        self.stop.store(true, Ordering::SeqCst);
+        Ok(accepted)
+    }
+}
+
+// A client that came right before a stop and sends nothing is let go as any other: at its limit, or at once where it has none.
+#[test]
+fn a_stop_lets_newcomers_go(rt: HostRuntime) -> Result<(), Fail> {
+    for (limits, is_told) in [(SHORT, true), (NONE, false)] {
+        let inner = listen_within(&rt, any_port(), limits)?;
+        let mut client = TcpStream::connect(&rt, inner.local_addr()?)?;
+        client.set_read_timeout(Some(patience()))?;
+        let (to, from) = waiting_line(rt.alloc())?;
+        let stop = AtomicBool::new(false);
+        let listener = LastCall { inner, stop: &stop };
+        gather_until_stopped(&rt, rt.alloc(), listener, rules(limits, 8), &stop, to)?;
+        let told = is_next(&rt, &from, b"", Some(WireFault::Timeout));
+        let is_closed = matches!(client.read(&mut [0; 8]), Ok(0));
+        assert!(rt; told == is_told && is_closed, "{limits:?}");
     }
     Ok(())
 }

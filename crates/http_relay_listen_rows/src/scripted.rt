@@ -16,10 +16,7 @@ const REQUEST: &[u8] = b"GET / HTTP/1.1\r\nHost: a\r\n\r\n";
 
 /// A connection of a `Script`, whose client has sent a request.
 #[derive(Debug, Drop)]
-struct Scripted {
-    // Whether it can be set not to block.
-    is_settable: bool,
-}
+struct Scripted;
 
 impl Read for Scripted {
     fn read(&mut self, buffer: &mut [u8]) -> io::Result<usize> {
@@ -45,21 +42,12 @@ impl AsRawFd for Scripted {
     }
 }
 
-impl OpenStream for Scripted {
-    fn set_nonblocking(&self, _nonblocking: bool) -> io::Result<()> {
-        match self.is_settable {
-            true => Ok(()),
-            false => Err(ErrorKind::InvalidInput.into()),
-        }
-    }
-}
+impl OpenStream for Scripted {}
 
 /// What an accept gives.
 #[derive(Clone, Copy, Debug)]
 enum Accept {
     Connection,
-    // One that can't be set not to block.
-    Unsettable,
     Fails(ErrorKind),
     // The system's error of this number.
     FailsAs(i32),
@@ -96,17 +84,16 @@ impl<'a> OpenListener for ScriptedListener<'a> {
             return Err(ErrorKind::WouldBlock.into());
         };
         match accept {
-            Accept::Connection => Ok(connection(true)),
-            Accept::Unsettable => Ok(connection(false)),
+            Accept::Connection => Ok(connection()),
             Accept::Fails(kind) => Err((*kind).into()),
             Accept::FailsAs(number) => Err(Error::from_raw_os_error(*number)),
         }
     }
 }
 
-fn connection(is_settable: bool) -> (Scripted, SocketAddr) {
+fn connection() -> (Scripted, SocketAddr) {
     let address = SocketAddr::V4(SocketAddrV4::new(Ipv4Addr::new(10, 0, 0, 1), 80));
-    (Scripted { is_settable }, address)
+    (Scripted, address)
 }
 
 // `EMFILE`: too many open files.
@@ -132,10 +119,9 @@ const ACCEPTS: &[(&[Accept], usize)] = &[
         1,
     ),
     (&[Accept::Fails(ErrorKind::Other), Accept::Connection], 1),
-    (&[Accept::Unsettable, Accept::Connection], 1),
 ];
 
-// No error of one accept ends the loop, and a connection whose reads would wait is closed.
+// No error of one accept ends the loop.
 #[test]
 fn errors_end_nothing(rt: HostRuntime) -> Result<(), Fail> {
     for (accepts, handed_on) in ACCEPTS {
@@ -174,7 +160,7 @@ impl OpenListener for Crowd {
     }
 
     fn accept(&self) -> io::Result<(Scripted, SocketAddr)> {
-        Ok(connection(true))
+        Ok(connection())
     }
 }
 

@@ -43,8 +43,11 @@ struct Watch {
 /// What a client sends with its connection is read at once, so most connections are handed on as they come. Others wait in the lobby,
 /// where they cost no worker and hold no other up: up to `rules.most_guests`, of which the one that was silent for longest leaves where
 /// one more comes. A client may be silent for as long as `rules.silence` says, which each byte begins anew; one that was silent for longer
-/// is told to the worker as a read that timed out. Connections keep the limits on reads and writes that the listener gave them. Nobody waits for room in the line: where it is full nothing is accepted, and heads that become whole
-/// are kept.
+/// is told to the worker as a read that timed out. What the listener accepts has to be set not to block, since a read that waits would
+/// hold up all others, and keeps the limits on reads and writes that it came with. Nobody waits for room in the line: where it is full
+/// nothing is accepted, and heads that become whole are kept.
+///
+/// A connection whose head came with it costs this thread two calls of the system, the accept and a read.
 ///
 /// At a stop, which is seen within 100 ms, the listener is closed first. Guests have their limit as before; those of a frontend without a
 /// limit are closed without an answer. Then the end of the line is let go, so that workers end behind the last connection. The error
@@ -118,7 +121,8 @@ impl Watch {
         S: Read + Write + OpenStream + AsRawFd + Drop,
     {
         lobby.line.flush(rt);
-        rest_while_many_wait(rt, lobby.line.waiting());
+        let rested = rest_while_many_wait(rt, lobby.line.waiting());
+        lobby.settle(rt, self.poll.registry(), room, rested);
         let most = self.most_wait(lobby.line.is_clear(), accepts);
         let wait = Duration::from_millis(lobby.time_left(millis(rt, self.start), most));
         if self.poll.poll(&mut self.events, Some(wait)).is_err() {
@@ -195,12 +199,15 @@ fn rest<R: Clock>(rt: &R) {
 }
 
 /// Rests where so many connections wait in the line that workers have enough to do. What comes meanwhile would have to wait behind these
-/// anyway, and a rest gathers it, so that it costs fewer calls of the system and takes the workers' processors less often.
-fn rest_while_many_wait<R: Clock>(rt: &R, waiting: usize) {
-    if waiting >= MANY_WAITING {
+/// anyway, and a rest gathers it, so that it costs fewer calls of the system and takes the workers' processors less often. Tells whether
+/// it rested.
+fn rest_while_many_wait<R: Clock>(rt: &R, waiting: usize) -> bool {
+    let rests = waiting >= MANY_WAITING;
+    if rests {
         let each = waiting.min(MAX_WAITING) as u64;
         thread::sleep(rt, Duration::from_micros(each * REST_MICROS_EACH));
     }
+    rests
 }
 
 /// The moment, in milliseconds from the start, if the clock can be read.

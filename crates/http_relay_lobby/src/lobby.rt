@@ -10,6 +10,7 @@ use http_relay_wire::WireFault;
 use mio::unix::SourceFd;
 use mio::{Interest, Registry, Token};
 use std::alloc::{AllocError, Global};
+use std::collections::VecDeque;
 use std::io::{ErrorKind, Read, Write};
 use std::net::{OpenListener, OpenStream, SocketAddr};
 use std::os::fd::AsRawFd;
@@ -56,6 +57,8 @@ pub(crate) struct Lobby<S: Drop> {
     alloc: Global,
     rules: Rules,
     guests: Guests<S>,
+    /// Those that were accepted just now and whose heads weren't there. No report is asked for of them yet.
+    newcomers: VecDeque<Guest<S>>,
     pub(crate) line: Line<S>,
     next_number: usize,
 }
@@ -66,10 +69,13 @@ impl<S: Read + Write + OpenStream + AsRawFd + Drop> Lobby<S> {
         rules: Rules,
         to: Sender<Arrival<S>>,
     ) -> Result<Self, AllocError> {
+        let mut newcomers = VecDeque::new(alloc);
+        newcomers.reserve(MOST_ACCEPTED as usize)?;
         Ok(Lobby {
             alloc,
             rules,
             guests: Guests::new(alloc, rules.most_guests)?,
+            newcomers,
             line: Line::new(alloc, to),
             next_number: 0,
         })
@@ -77,7 +83,7 @@ impl<S: Read + Write + OpenStream + AsRawFd + Drop> Lobby<S> {
 
     /// Whether no connection is left here.
     pub(crate) fn is_empty(&self) -> bool {
-        self.guests.len() == 0 && self.line.is_clear()
+        self.guests.len() == 0 && self.newcomers.is_empty() && self.line.is_clear()
     }
 
     /// How many milliseconds it is until a guest has been silent for too long, but for so many at most.
@@ -113,7 +119,7 @@ impl<S: Read + Write + OpenStream + AsRawFd + Drop> Lobby<S> {
                 return Next::More;
             }
             match listener.accept() {
-                Ok((stream, address)) => self.welcome(rt, registry, stream, address, room, now),
+                Ok((stream, address)) => self.welcome(rt, stream, address, room, now),
                 Err(error) if error.kind() == ErrorKind::WouldBlock => return Next::Idle,
                 Err(error) if passes(&error) => {}
                 Err(_) => {
@@ -125,11 +131,10 @@ impl<S: Read + Write + OpenStream + AsRawFd + Drop> Lobby<S> {
         Next::More
     }
 
-    /// Reads what the client has sent with its connection. One whose head isn't whole becomes a guest.
+    /// Reads what the client has sent with its connection, which doesn't block. One whose head isn't whole is a newcomer.
     fn welcome<R: Wait>(
         &mut self,
         rt: &R,
-        registry: &Registry,
         stream: S,
         address: SocketAddr,
         room: &mut [u8; HEAD_ROOM],
@@ -138,14 +143,43 @@ impl<S: Read + Write + OpenStream + AsRawFd + Drop> Lobby<S> {
         let Some(arrival) = Arrival::of(self.alloc, stream, address, self.rules.frontend) else {
             return;
         };
-        // A read that waits would hold up all others, so a stream that can't be had otherwise is closed.
-        if arrival.stream.set_nonblocking(true).is_err() {
-            return;
-        }
         match Guest::new(arrival, now).read_once(room) {
-            Heard::Stays(guest) => self.invite(rt, registry, guest),
+            Heard::Stays(guest) => self.keep(guest),
             Heard::Leaves(arrival) => self.line.put(rt, arrival),
             Heard::Lost(stream) => refuse(stream),
+        }
+    }
+
+    // There is room for as many as are accepted in one go.
+    fn keep(&mut self, newcomer: Guest<S>) {
+        if let Err(failed) = self.newcomers.push_back(newcomer) {
+            refuse(failed.value.arrival.stream);
+        }
+    }
+
+    /// Makes the newcomers guests. Where some time has `passed` since they came, each is read once more before: most heads are there then,
+    /// and to have a connection watched, and then no longer, costs two calls of the system.
+    pub(crate) fn settle<R: Wait>(
+        &mut self,
+        rt: &R,
+        registry: &Registry,
+        room: &mut [u8; HEAD_ROOM],
+        passed: bool,
+    ) {
+        for _ in 0..self.newcomers.len() {
+            let Some(newcomer) = self.newcomers.pop_front() else {
+                break;
+            };
+            let heard = if passed {
+                newcomer.read_once(room)
+            } else {
+                Heard::Stays(newcomer)
+            };
+            match heard {
+                Heard::Stays(guest) => self.invite(rt, registry, guest),
+                Heard::Leaves(arrival) => self.line.put(rt, arrival),
+                Heard::Lost(stream) => refuse(stream),
+            }
         }
     }
 
@@ -238,9 +272,10 @@ impl<S: Read + Write + OpenStream + AsRawFd + Drop> Lobby<S> {
         self.line.put(rt, guest.failed(WireFault::Timeout));
     }
 
-    /// Closes the guests that nothing else would end, as those of a frontend without a limit.
+    /// Closes the guests and newcomers that nothing else would end, as those of a frontend without a limit.
     pub(crate) fn close_endless(&mut self) {
         if self.limit().is_none() {
+            self.newcomers.clear();
             for _ in 0..self.guests.len() {
                 let _ = self.guests.take_oldest();
             }

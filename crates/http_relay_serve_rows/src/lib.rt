@@ -1,4 +1,5 @@
-//! Whole requests through `serve_one`, over scripted wires, ports, clocks and dialers.
+//! Whole requests through `serve_one`, over scripted wires, ports, clocks and dialers; and of its parts the queue before a full server,
+//! visits of one server, and what goes out in one write.
 //!
 //! Tests alone. Each expected text was written by hand. Start at `causes`; `site` has the configuration of the tests.
 #![tactic(auto)]
@@ -10,6 +11,12 @@ mod cuts;
 #[cfg(test)]
 mod drops;
 #[cfg(test)]
+mod joint_writes;
+#[cfg(test)]
+mod queues;
+#[cfg(test)]
 mod requests;
 #[cfg(test)]
 mod site;
+#[cfg(test)]
+mod visits;

@@ -74,6 +74,56 @@ fn a_write_to_a_full_server_has_its_limit(rt: HostRuntime) -> Result<(), Fail> {
     Ok(())
 }
 
+// How many bytes a server answers, of which a read takes 8, and whether it ends before the first read.
+const ANSWERS: &[(usize, bool)] = &[
+    (0, true),
+    (3, true),
+    (8, true),
+    (20, true),
+    (3, false),
+    (8, false),
+    (20, false),
+];
+
+// All that a server answers is read, and then its end, wherever the reads and its end fall.
+#[test]
+fn an_answer_is_read_to_its_end(rt: HostRuntime) -> Result<(), Fail> {
+    for (count, ends_first) in ANSWERS {
+        let listener = TcpListener::bind(&rt, "127.0.0.1:0")?;
+        let limits = Limits {
+            connect: None,
+            transfer: Some(5000),
+        };
+        let mut dialer = SocketDialer::new();
+        let mut near = dialer.dial(&rt, endpoint(listener.local_addr()?.port()), limits)?;
+        let mut far = SocketWire::new(listener.accept()?.0);
+        let mut buffer = [0; 8];
+        write_all(&mut near, b"hi")?;
+        let asked = far.read(&mut buffer)?;
+        write_all(&mut far, &[7; 20][..*count])?;
+        let mut got = 0;
+        if !*ends_first {
+            got = near.read(&mut buffer)?;
+        }
+        drop(far);
+        let mut last = None;
+        for _ in 0..8 {
+            let read = near.read(&mut buffer)?;
+            got = read.saturating_add(got);
+            last = Some(read);
+            if read == 0 {
+                break;
+            }
+        }
+        dialer.hang_up(&rt, near);
+        assert!(rt;
+            (asked, got, last) == (2, *count, Some(0)),
+            "{count}, {ends_first}: {got}, {last:?}"
+        );
+    }
+    Ok(())
+}
+
 // A server that nobody listens for is broken at once.
 #[test]
 fn a_server_that_is_gone_is_not_dialled(rt: HostRuntime) -> Result<(), Fail> {

@@ -1,5 +1,5 @@
 use http_relay_dial::Limits;
-use libc::net::{_SS_SIZE, POLLERR, POLLHUP, POLLIN, POLLOUT, connect, poll};
+use libc::net::{_SS_SIZE, POLLERR, POLLHUP, POLLIN, POLLOUT, POLLRDHUP, connect, poll};
 use libc::types::pollfd;
 use mio::net as ready;
 use std::io;
@@ -15,8 +15,19 @@ const NOWHERE: [u8; _SS_SIZE] = [0; _SS_SIZE];
 
 const NOWHERE_LENGTH: u32 = 16;
 
+/// What is known of the end of what a server sends.
+#[derive(Clone, Copy, Debug, PartialEq, Eq)]
+enum End {
+    Unknown,
+    /// The system has it, behind what wasn't read.
+    Came,
+    /// All that came before it was read.
+    Reached,
+}
+
 /// A connection to a server. Its socket doesn't block: calls wait by `poll`, which takes the limit as an argument, so that none has to be
-/// set. A connection costs three calls of the system, an answer one besides its reads, and the end two. It ends by a reset (RFC 9293,
+/// set. A connection costs three calls of the system, an answer one besides its reads, and the end two. Where the server's end came with
+/// its answer, `poll` tells of both, and no read has to find the end. The connection ends by a reset (RFC 9293,
 /// 3.10.5, ABORT), as HAProxy's connections to servers do: nothing is owed to a server whose answer is there or isn't waited for, and
 /// an end in turn costs both sides more.
 #[derive(Debug)]
@@ -28,13 +39,14 @@ pub struct ServerStream {
     sends_at_once: bool,
     /// Whether the server has to answer before there is something to read.
     is_asked: bool,
+    end: End,
 }
 
 impl ServerStream {
     /// A connection to the server at this address under these limits. The error is the system's, or `TimedOut`.
     pub fn connect<R: Net>(rt: &R, address: SocketAddr, limits: Limits) -> io::Result<Self> {
         let stream = TcpStream::from(ready::TcpStream::connect(rt, address)?);
-        if wait_for(&stream, POLLOUT, limits.connect)? {
+        if has_failed(wait_for(&stream, POLLOUT, limits.connect)?) {
             let error = stream.take_error()?;
             return Err(error.unwrap_or(ErrorKind::NotConnected.into()));
         }
@@ -44,6 +56,7 @@ impl ServerStream {
             has_written: false,
             sends_at_once: false,
             is_asked: false,
+            end: End::Unknown,
         })
     }
 
@@ -55,6 +68,24 @@ impl ServerStream {
         }
         self.has_written = true;
         Ok(())
+    }
+
+    /// Waits until there is something to read, be it the end.
+    fn wait_to_read(&mut self) -> io::Result<()> {
+        let reported = wait_for(&self.stream, POLLIN | POLLRDHUP, self.limit)?;
+        if reported == POLLIN | POLLRDHUP {
+            self.end = End::Came;
+        }
+        Ok(())
+    }
+
+    /// Notes what a read into so much room says of the end. One that leaves room has read all that the system had, since HTTP has no
+    /// urgent data (RFC 6093), which alone would end a read before that.
+    fn note_read(&mut self, answer: &io::Result<usize>, room: usize) {
+        match answer {
+            Ok(count) if self.end == End::Came && *count < room => self.end = End::Reached,
+            _ => {}
+        }
     }
 }
 
@@ -68,6 +99,7 @@ impl Drop for ServerStream {
             has_written: _,
             sends_at_once: _,
             is_asked: _,
+            end: _,
         } = self;
         drop(stream);
     }
@@ -75,16 +107,20 @@ impl Drop for ServerStream {
 
 impl Read for ServerStream {
     fn read(&mut self, buffer: &mut [u8]) -> io::Result<usize> {
+        if self.end == End::Reached {
+            return Ok(0);
+        }
         if self.is_asked {
-            wait_for(&self.stream, POLLIN, self.limit)?;
+            self.wait_to_read()?;
             self.is_asked = false;
         }
         for _ in 0..MOST_TRIES {
             let answer = self.stream.read(buffer);
             if !had_to_wait(&answer) {
+                self.note_read(&answer, buffer.len());
                 return answer;
             }
-            wait_for(&self.stream, POLLIN, self.limit)?;
+            self.wait_to_read()?;
         }
         Err(ErrorKind::Other.into())
     }
@@ -117,9 +153,14 @@ fn had_to_wait<T>(answer: &io::Result<T>) -> bool {
     }
 }
 
-// Waits until the system reports one of these events of the socket, or that it has failed, and tells which. The error is `TimedOut` where
-// the limit ran out before.
-fn wait_for(stream: &TcpStream, events: i16, limit: Option<u32>) -> io::Result<bool> {
+// Whether the report says that the connection has failed.
+fn has_failed(reported: i16) -> bool {
+    reported & (POLLERR | POLLHUP) != 0
+}
+
+// Waits until the system reports one of these events of the socket, or that it has failed, and gives the report. The error is `TimedOut`
+// where the limit ran out before.
+fn wait_for(stream: &TcpStream, events: i16, limit: Option<u32>) -> io::Result<i16> {
     let mut asked = [pollfd {
         fd: stream.as_raw_fd(),
         events,
@@ -128,7 +169,7 @@ fn wait_for(stream: &TcpStream, events: i16, limit: Option<u32>) -> io::Result<b
     for _ in 0..MOST_TRIES {
         let reported = poll(&mut asked, timeout_of(limit));
         if reported > 0 {
-            return Ok(asked[0].revents & (POLLERR | POLLHUP) != 0);
+            return Ok(asked[0].revents);
         }
         if reported == 0 {
             return Err(ErrorKind::TimedOut.into());

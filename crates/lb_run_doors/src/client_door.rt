@@ -2,17 +2,17 @@ ghost use Rattle.std.specs.Prelude.{◌≡◌, IfOk};
 ghost use Rattle.lb_run_doors.specs.Doors.{door_at, door_view, limits_of};
 
 use crate::fault::BindFault;
-use http_relay_listen::listen_within;
+use http_relay_listen::{ClientListener, listen_within};
 use http_relay_socket::StreamLimits;
 use lb_config::Frontend;
 use lb_config_arguments::Endpoint;
 use std::alloc::{AllocError, Global};
-use std::net::{Net, SocketAddrV4, TcpListener};
+use std::net::{Net, SocketAddrV4};
 
 /// Where clients of a frontend connect.
 #[derive(Debug, Drop)]
 pub struct ClientDoor {
-    pub listener: TcpListener,
+    pub listener: ClientListener,
     pub endpoint: Endpoint,
     /// The place of the frontend among the configuration's.
     pub frontend: usize,

@@ -1,0 +1,58 @@
+use libc::net::{_SS_SIZE, SOCK_CLOEXEC, SOCK_NONBLOCK, accept4};
+use os::{FromRawFd, errno};
+use std::io;
+use std::net::{Ipv4Addr, OpenListener, SocketAddr, SocketAddrV4, TcpListener, TcpStream};
+use std::os::fd::{AsRawFd, RawFd};
+
+/// A listener for clients at an IPv4 address. What it accepts doesn't block, and has cost one call of the system, where std's listener and
+/// that of `mio` make a second one for it.
+#[derive(Debug, Drop)]
+pub struct ClientListener {
+    socket: TcpListener,
+}
+
+impl ClientListener {
+    /// The listener over this socket, which listens at an IPv4 address.
+    pub(crate) fn new(socket: TcpListener) -> Self {
+        ClientListener { socket }
+    }
+}
+
+impl OpenListener for ClientListener {
+    type Stream = TcpStream;
+
+    fn accept(&self) -> io::Result<(TcpStream, SocketAddr)> {
+        let mut address = [0; _SS_SIZE];
+        let mut length = 128;
+        let flags = SOCK_CLOEXEC | SOCK_NONBLOCK;
+        let descriptor = unsafe {
+            accept4(self.socket.as_raw_fd(), &mut address, &mut length, flags)
+        };
+        if descriptor < 0 {
+            return Err(io::Error::from_raw_os_error(errno()));
+        }
+        let stream = unsafe { TcpStream::from_raw_fd(descriptor) };
+        Ok((stream, SocketAddr::V4(address_in(&address))))
+    }
+
+    fn local_addr(&self) -> io::Result<SocketAddr> {
+        self.socket.local_addr()
+    }
+
+    fn set_nonblocking(&self, nonblocking: bool) -> io::Result<()> {
+        self.socket.set_nonblocking(nonblocking)
+    }
+}
+
+impl AsRawFd for ClientListener {
+    fn as_raw_fd(&self) -> RawFd {
+        self.socket.as_raw_fd()
+    }
+}
+
+/// The address that the system has put there (`sockaddr_in`): behind two bytes for its family the port and the host, each with its high
+/// byte first.
+fn address_in(bytes: &[u8; _SS_SIZE]) -> SocketAddrV4 {
+    let port = u16::from_be_bytes([bytes[2], bytes[3]]);
+    SocketAddrV4::new(Ipv4Addr::new(bytes[4], bytes[5], bytes[6], bytes[7]), port)
+}
