@@ -54,6 +54,17 @@ def ticks(cores: str) -> tuple[int, int]:
     return sum(it[3] + it[4] for it in counts), sum(map(sum, counts))
 
 
+def stolen() -> tuple[int, int]:
+    """The ticks in which the machine below ran something else on all processors, and all ticks, since the system began."""
+    counts = [*map(int, Path("/proc/stat").read_text().splitlines()[0].split()[1:9])]
+    return counts[7], sum(counts)
+
+
+def share(before: tuple[int, int], after: tuple[int, int]) -> float:
+    """The share of the ticks between, in percent."""
+    return 100 * (after[0] - before[0]) / max(after[1] - before[1], 1)
+
+
 def raise_files() -> None:
     """Lets this process and those that it starts open as many files as the system allows."""
     most = resource.getrlimit(resource.RLIMIT_NOFILE)[1]

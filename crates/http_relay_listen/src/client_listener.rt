@@ -45,6 +45,11 @@ impl OpenListener for ClientListener {
 }
 
 impl AsRawFd for ClientListener {
+    ghost use Rattle.std.specs.Prelude.{Some};
+    ghost use Rattle.std.specs.Net.Tcp.{listener_raw_fd};
+
+    ghost raw_fd = { λ listener. Some (listener_raw_fd listener.socket) };
+
     fn as_raw_fd(&self) -> RawFd {
         self.socket.as_raw_fd()
     }

@@ -2,9 +2,9 @@ use http_relay_dial::{Dialer, Endpoint, Limits};
 use http_relay_system::{SocketDialer, SystemClock};
 use http_relay_wire::{SocketWire, Wire, WireFault, write_all};
 use lb_desk_ports::Clock;
-use std::net::{Ipv4Addr, TcpListener};
+use std::net::{Ipv4Addr, Shutdown, TcpListener};
 use std::test::Fail;
-use std::time::Instant;
+use std::time::{Duration, Instant};
 
 fn endpoint(port: u16) -> Endpoint {
     Endpoint {
@@ -119,6 +119,42 @@ fn an_answer_is_read_to_its_end(rt: HostRuntime) -> Result<(), Fail> {
         assert!(rt;
             (asked, got, last) == (2, *count, Some(0)),
             "{count}, {ends_first}: {got}, {last:?}"
+        );
+    }
+    Ok(())
+}
+
+// A connection that is given back is closed at once; but one whose server has ended where the dialer is told to close the last, so that
+// the end of an answer can go out before.
+#[test]
+fn a_server_that_has_ended_is_closed_last(rt: HostRuntime) -> Result<(), Fail> {
+    let limits = Limits {
+        connect: None,
+        transfer: Some(5000),
+    };
+    let cases: &[(bool, Result<usize, WireFault>, Result<usize, WireFault>)] = &[
+        (true, Err(WireFault::Timeout), Err(WireFault::Broken)),
+        (false, Err(WireFault::Broken), Ok(0)),
+    ];
+    for (ends, given_back, closed) in cases {
+        let listener = TcpListener::bind(&rt, "127.0.0.1:0")?;
+        let mut dialer = SocketDialer::new();
+        let mut near = dialer.dial(&rt, endpoint(listener.local_addr()?.port()), limits)?;
+        let (far, _) = listener.accept()?;
+        far.set_read_timeout(Some(Duration::from_millis(50)))?;
+        let mut buffer = [0; 2];
+        if *ends {
+            far.shutdown(Shutdown::Write)?;
+            near.read(&mut buffer)?;
+        }
+        let mut far = SocketWire::new(far);
+        dialer.hang_up(&rt, near);
+        let before = far.read(&mut buffer);
+        dialer.close_last();
+        let after = far.read(&mut buffer);
+        assert!(rt;
+            before == *given_back && after == *closed,
+            "{ends}: {before:?}, {after:?}"
         );
     }
     Ok(())

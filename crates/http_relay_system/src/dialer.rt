@@ -1,17 +1,20 @@
 ghost use Rattle.std.specs.Prelude.{◌≡◌, None};
 
-use crate::ServerStream;
+use crate::{ServerStream, ServerWire};
 use http_relay_dial::{Dialer, Endpoint, Limits};
-use http_relay_wire::{SocketWire, WireFault};
+use http_relay_wire::WireFault;
 use std::io;
 use std::io::ErrorKind;
 use std::net::{Net, SocketAddr, SocketAddrV4};
 
-/// Connects to servers by sockets. A connection sends at once what it is given, and waits as long as its limits let it; it is closed where
-/// it is given back.
+/// Connects to servers by sockets. A connection sends at once what it is given, and waits as long as its limits let it. It is closed where
+/// it is given back; but one whose server has ended, to which it is as good as closed, at `close_last`, or where the next one is given
+/// back. So who has a client to tell the end of its answer does that before.
 #[derive(Debug, Default, Drop)]
 pub struct SocketDialer {
     failures: u64,
+    /// The connection that was given back last, where its server has ended and it isn't closed yet.
+    last: Option<ServerWire>,
 }
 
 impl SocketDialer {
@@ -19,12 +22,22 @@ impl SocketDialer {
     pub fn new() -> Self
         ensures { result.failures ≡ 0 }
     {
-        SocketDialer { failures: 0 }
+        SocketDialer {
+            failures: 0,
+            last: None,
+        }
+    }
+
+    /// Closes the connection that was given back last, if it isn't closed yet. That costs two calls of the system.
+    pub fn close_last(&mut self)
+        ensures { self.new.failures ≡ self.old.failures }
+    {
+        self.last = None;
     }
 }
 
 impl<R: Net> Dialer<R> for SocketDialer {
-    type Connection = SocketWire<ServerStream>;
+    type Connection = ServerWire;
 
     ghost dials = { λ dialer. None };
 
@@ -37,10 +50,10 @@ impl<R: Net> Dialer<R> for SocketDialer {
         rt: &R,
         endpoint: Endpoint,
         limits: Limits,
-    ) -> Result<SocketWire<ServerStream>, WireFault> {
+    ) -> Result<ServerWire, WireFault> {
         let address = SocketAddr::V4(SocketAddrV4::new(endpoint.address, endpoint.port));
         match ServerStream::connect(rt, address, limits) {
-            Ok(stream) => Ok(SocketWire::new(stream)),
+            Ok(stream) => Ok(ServerWire::new(stream)),
             Err(error) => {
                 self.failures = self.failures.saturating_add(1);
                 Err(fault_of(&error))
@@ -48,8 +61,8 @@ impl<R: Net> Dialer<R> for SocketDialer {
         }
     }
 
-    fn hang_up(&mut self, _rt: &R, connection: SocketWire<ServerStream>) {
-        drop(connection);
+    fn hang_up(&mut self, _rt: &R, connection: ServerWire) {
+        self.last = connection.has_ended().then_some(connection);
     }
 }
 

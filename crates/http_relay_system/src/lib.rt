@@ -8,7 +8,9 @@
 mod clock;
 mod connection;
 mod dialer;
+mod server_wire;
 
 pub use clock::SystemClock;
 pub use connection::ServerStream;
 pub use dialer::SocketDialer;
+pub use server_wire::ServerWire;

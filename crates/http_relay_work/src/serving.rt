@@ -55,6 +55,8 @@ where
     let wire = FrontedWire::new(SocketWire::new(&mut client), &head, failed);
     let outcome = serve_over(rt, alloc, worker, &routes, source, wire, ports, room);
     end(rt, outcome, client, leavers);
+    // The client's end goes first: where the client ends before, its last packets cost more here.
+    worker.dialer.close_last();
     Some(outcome)
 }
 
