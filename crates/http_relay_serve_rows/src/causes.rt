@@ -1,4 +1,4 @@
-use crate::site::{Call, SERVER, Site, its_server, open_port, port_script, serve, target};
+use crate::site::{Call, SERVER, Served, Site, its_server, open_port, port_script, serve, target};
 use http_relay_dial::DialScript;
 use http_relay_head::HEAD_ROOM;
 use http_relay_serve::{Cause, Outcome};
@@ -87,32 +87,40 @@ pub(crate) fn source() -> StickOn {
     }
 }
 
+// Whether the relay answered for this cause, and gave its slots back.
+fn has_answered(served: &Served<'_>, cause: Cause, text: &[u8]) -> bool {
+    served.outcome == Outcome::Answered(cause)
+        && served.client.written() == text
+        && served.gave_back_its_slots()
+}
+
+const BAD_REQUESTS: &[(&[u8], Cause)] = &[
+    (LONG, Cause::HeadTooLarge),
+    (
+        b"GET / HTTP/1.1\r\nConnection: host\r\nHost: x\r\n\r\n",
+        Cause::BadHead,
+    ),
+    (
+        b"POST / HTTP/1.1\r\nContent-Length: 3\r\nTransfer-Encoding: chunked\r\n\r\n",
+        Cause::BothLengths,
+    ),
+    (b"GET / HTT", Cause::HeadCutShort),
+    (b"", Cause::HeadCutShort),
+    (
+        b"POST / HTTP/1.1\r\nContent-Length: 3\r\n\r\nhi",
+        Cause::BodyCutShort,
+    ),
+    (
+        b"POST / HTTP/1.1\r\nTransfer-Encoding: chunked\r\n\r\nzz\r\n",
+        Cause::BadChunk,
+    ),
+];
+
 // What stands in the client's bytes.
 #[test]
 fn a_bad_request_is_answered_400(rt: HostRuntime) -> Result<(), Fail> {
-    let cases = [
-        (LONG, Cause::HeadTooLarge),
-        (
-            b"GET / HTTP/1.1\r\nConnection: host\r\nHost: x\r\n\r\n",
-            Cause::BadHead,
-        ),
-        (
-            b"POST / HTTP/1.1\r\nContent-Length: 3\r\nTransfer-Encoding: chunked\r\n\r\n",
-            Cause::BothLengths,
-        ),
-        (b"GET / HTT", Cause::HeadCutShort),
-        (b"", Cause::HeadCutShort),
-        (
-            b"POST / HTTP/1.1\r\nContent-Length: 3\r\n\r\nhi",
-            Cause::BodyCutShort,
-        ),
-        (
-            b"POST / HTTP/1.1\r\nTransfer-Encoding: chunked\r\n\r\nzz\r\n",
-            Cause::BadChunk,
-        ),
-    ];
     let pattern = source();
-    for (input, cause) in cases {
+    for (input, cause) in BAD_REQUESTS {
         let call = Call {
             input,
             client: Script::SMOOTH,
@@ -120,76 +128,75 @@ fn a_bad_request_is_answered_400(rt: HostRuntime) -> Result<(), Fail> {
             server: ANSWERS,
         };
         let served = serve(&rt, rt.alloc(), &site(&pattern), &call)?;
-        assert!(rt;
-            served.outcome == Outcome::Answered(cause)
-                && served.client.written() == BAD_REQUEST
-                && served.gave_back_its_slots(),
-            "{cause:?}"
-        );
+        assert!(rt; has_answered(&served, *cause, BAD_REQUEST), "{cause:?}");
     }
     Ok(())
 }
 
+// What the backend answers, the openings of its connections, which of its calls is refused, the cause, and what the client gets.
+type Unconnected = (
+    Asked,
+    &'static [ScriptedOpening],
+    Option<(u64, Refused)>,
+    Cause,
+    &'static [u8],
+);
+
 // A good request for which the backend has no connection.
 #[test]
 fn a_request_without_a_connection_is_answered(rt: HostRuntime) -> Result<(), Fail> {
-    let (good, other) = (
-        its_server(),
-        Asked::Served(ServerId::new(SERVER + 1), ServedAs::Made),
-    );
-    let opens = [].as_slice();
-    let cases = [
+    let rows: &[Unconnected] = &[
         (
-            good,
-            opens,
+            its_server(),
+            &[],
             Some((0, Refused::Memory)),
             Cause::RequestRefused(Refused::Memory),
             INTERNAL_SERVER_ERROR,
         ),
         (
-            good,
-            opens,
+            its_server(),
+            &[],
             Some((1, Refused::Worn)),
             Cause::RequestRefused(Refused::Worn),
             INTERNAL_SERVER_ERROR,
         ),
         (
             Asked::NoSuchServer,
-            opens,
+            &[],
             None,
             Cause::NoSuchServer,
             INTERNAL_SERVER_ERROR,
         ),
         (
-            other,
-            opens,
+            Asked::Served(ServerId::new(SERVER + 1), ServedAs::Made),
+            &[],
             None,
             Cause::UnknownServer,
             INTERNAL_SERVER_ERROR,
         ),
         (
-            good,
-            opens,
+            its_server(),
+            &[],
             Some((2, Refused::Worn)),
             Cause::OpenRefused(Refused::Worn),
             INTERNAL_SERVER_ERROR,
         ),
         (
             Asked::NoServer,
-            opens,
+            &[],
             None,
             Cause::NoServer,
             SERVICE_UNAVAILABLE,
         ),
         (
-            good,
+            its_server(),
             &[ScriptedOpening::NotServing],
             None,
             Cause::NotServing,
             SERVICE_UNAVAILABLE,
         ),
         (
-            good,
+            its_server(),
             &[ScriptedOpening::Full],
             None,
             Cause::QueueOver,
@@ -197,20 +204,15 @@ fn a_request_without_a_connection_is_answered(rt: HostRuntime) -> Result<(), Fai
         ),
     ];
     let pattern = source();
-    for (asked, openings, refusing, cause, text) in cases {
+    for (asked, openings, refusing, cause, text) in rows {
         let call = Call {
             input: POST,
             client: Script::SMOOTH,
-            port: port_script(asked, openings, refusing),
+            port: port_script(*asked, openings, *refusing),
             server: ANSWERS,
         };
         let served = serve(&rt, rt.alloc(), &site(&pattern), &call)?;
-        assert!(rt;
-            served.outcome == Outcome::Answered(cause)
-                && served.client.written() == text
-                && served.gave_back_its_slots(),
-            "{cause:?}"
-        );
+        assert!(rt; has_answered(&served, *cause, text), "{cause:?}");
     }
     Ok(())
 }
@@ -218,7 +220,7 @@ fn a_request_without_a_connection_is_answered(rt: HostRuntime) -> Result<(), Fai
 // A good request to which the server gives no response.
 #[test]
 fn a_request_without_a_response_is_answered(rt: HostRuntime) -> Result<(), Fail> {
-    let cases = [
+    let rows: &[(DialScript<'static>, Cause, &[u8])] = &[
         (Err(LATE), Cause::NotDialled(LATE), SERVICE_UNAVAILABLE),
         (
             sends(RESPONSE, failing_write(0, BROKEN)),
@@ -248,20 +250,15 @@ fn a_request_without_a_response_is_answered(rt: HostRuntime) -> Result<(), Fail>
         ),
     ];
     let pattern = source();
-    for (server, cause, text) in cases {
+    for (server, cause, text) in rows {
         let call = Call {
             input: POST,
             client: Script::SMOOTH,
             port: open_port(),
-            server,
+            server: *server,
         };
         let served = serve(&rt, rt.alloc(), &site(&pattern), &call)?;
-        assert!(rt;
-            served.outcome == Outcome::Answered(cause)
-                && served.client.written() == text
-                && served.gave_back_its_slots(),
-            "{cause:?}"
-        );
+        assert!(rt; has_answered(&served, *cause, text), "{cause:?}");
     }
     Ok(())
 }
@@ -269,7 +266,7 @@ fn a_request_without_a_response_is_answered(rt: HostRuntime) -> Result<(), Fail>
 // A head that no backend takes, and a client that is too slow with its head: nobody is asked.
 #[test]
 fn a_head_without_a_backend_asks_nobody(rt: HostRuntime) -> Result<(), Fail> {
-    let cases = [
+    let rows: &[(bool, Script<'static>, Cause, &[u8])] = &[
         (false, Script::SMOOTH, Cause::NoBackend, SERVICE_UNAVAILABLE),
         (
             true,
@@ -279,22 +276,20 @@ fn a_head_without_a_backend_asks_nobody(rt: HostRuntime) -> Result<(), Fail> {
         ),
     ];
     let pattern = source();
-    for (takes, client, cause, text) in cases {
+    for (takes, client, cause, text) in rows {
         let call = Call {
             input: POST,
-            client,
+            client: *client,
             port: open_port(),
             server: ANSWERS,
         };
         let nowhere = Site {
-            takes,
+            takes: *takes,
             ..site(&pattern)
         };
         let served = serve(&rt, rt.alloc(), &nowhere, &call)?;
         assert!(rt;
-            served.outcome == Outcome::Answered(cause)
-                && served.client.written() == text
-                && served.entries().is_empty(),
+            has_answered(&served, *cause, text) && served.entries().is_empty(),
             "{cause:?}"
         );
     }

@@ -10,35 +10,43 @@ const WAITING: &[u8] = b"POST / HTTP/1.1\r\nContent-Length: 2\r\nExpect: 100-con
 
 const BAD: &[u8] = b"GET /\r\n\r\n";
 
+// What the client sends, how its wire and the server's behave, why it is dropped, and what it got before.
+type Row = (
+    &'static [u8],
+    Script<'static>,
+    Script<'static>,
+    DropCause,
+    &'static [u8],
+);
+
 // What the client got before it was dropped, and that the slot was given back.
 #[test]
 fn a_fault_of_the_client_or_behind_the_first_byte_drops(rt: HostRuntime) -> Result<(), Fail> {
-    let smooth = Script::SMOOTH;
-    let cases = [
+    let rows: &[Row] = &[
         (
             POST,
             failing_read(0, BROKEN),
-            smooth,
+            Script::SMOOTH,
             DropCause::HeadBroken,
-            b"".as_slice(),
+            b"",
         ),
         (
             WAITING,
             failing_write(0, BROKEN),
-            smooth,
+            Script::SMOOTH,
             DropCause::ContinueNotTaken(BROKEN),
             b"",
         ),
         (
             WAITING,
             failing_read(1, LATE),
-            smooth,
+            Script::SMOOTH,
             DropCause::BodyNotRead(LATE),
             CONTINUE,
         ),
         (
             POST,
-            smooth,
+            Script::SMOOTH,
             failing_read(1, BROKEN),
             DropCause::ResponseCutShort(BROKEN),
             RESPONSE,
@@ -46,30 +54,30 @@ fn a_fault_of_the_client_or_behind_the_first_byte_drops(rt: HostRuntime) -> Resu
         (
             POST,
             failing_write(0, LATE),
-            smooth,
+            Script::SMOOTH,
             DropCause::ResponseNotTaken(LATE),
             b"",
         ),
         (
             BAD,
             failing_write(0, BROKEN),
-            smooth,
+            Script::SMOOTH,
             DropCause::AnswerNotTaken(Cause::BadHead, BROKEN),
             b"",
         ),
     ];
     let pattern = source();
-    for (input, client, server, cause, got) in cases {
+    for (input, client, server, cause, got) in rows {
         let call = Call {
             input,
-            client,
+            client: *client,
             port: open_port(),
-            server: Ok((RESPONSE, server)),
+            server: Ok((RESPONSE, *server)),
         };
         let served = serve(&rt, rt.alloc(), &site(&pattern), &call)?;
         assert!(rt;
-            served.outcome == Outcome::Dropped(cause)
-                && served.client.written() == got
+            served.outcome == Outcome::Dropped(*cause)
+                && served.client.written() == *got
                 && served.gave_back_its_slots(),
             "{cause:?}"
         );

@@ -20,63 +20,62 @@ fn server(alloc: Global, most: usize, failing: u64) -> ScriptedWire<'static> {
     ScriptedWire::new(alloc, RESPONSE, script)
 }
 
+// The body's kind, what came behind the head, what comes later, and what goes out with the head.
+type Row = (BodyKind, &'static [u8], &'static [u8], &'static [u8]);
+
+const ROWS: &[Row] = &[
+    (BodyKind::Empty, b"", b"", b""),
+    (BodyKind::Empty, b"GET", b"", b""),
+    (BodyKind::Length(500), &FORM, b"", &FORM),
+    (BodyKind::Length(2), b"hiGET", b"", b"hi"),
+    (BodyKind::Length(2), b"h", b"i", b"h"),
+    (BodyKind::Length(2), b"", b"hi", b""),
+    (BodyKind::Length(0), b"GET", b"", b""),
+    (
+        BodyKind::Chunked,
+        b"2\r\nhi\r\n0\r\n\r\n",
+        b"",
+        b"2\r\nhi\r\n0\r\n\r\n",
+    ),
+    (
+        BodyKind::Chunked,
+        b"0\r\na: b\r\n\r\nGET",
+        b"",
+        b"0\r\na: b\r\n\r\n",
+    ),
+    (
+        BodyKind::Chunked,
+        b"2\r\nhi\r\n2\r\nh",
+        b"o\r\n0\r\n\r\n",
+        b"2\r\nhi\r\n",
+    ),
+    (
+        BodyKind::Chunked,
+        b"2\r\nhi\r\n0\r\na: b\r\n",
+        b"\r\n",
+        b"2\r\nhi\r\n",
+    ),
+    (BodyKind::Chunked, b"2\r\nhi\r", b"\n0\r\n\r\n", b""),
+    (BodyKind::Chunked, b"2\r\nhi\r\nx", b"", b"2\r\nhi\r\n"),
+];
+
 // What went out in the first write, where the server takes all at once: all of it is there before the second fails, and nothing
 // before the first does. What came behind the head is told apart from what the client sends later.
 #[test]
 fn a_head_and_what_came_of_its_body_go_out_in_one_write(rt: HostRuntime) {
-    let cases = [
-        (
-            BodyKind::Empty,
-            b"".as_slice(),
-            b"".as_slice(),
-            b"".as_slice(),
-        ),
-        (BodyKind::Empty, b"GET", b"", b""),
-        (BodyKind::Length(500), &FORM, b"", &FORM),
-        (BodyKind::Length(2), b"hiGET", b"", b"hi"),
-        (BodyKind::Length(2), b"h", b"i", b"h"),
-        (BodyKind::Length(2), b"", b"hi", b""),
-        (BodyKind::Length(0), b"GET", b"", b""),
-        (
-            BodyKind::Chunked,
-            b"2\r\nhi\r\n0\r\n\r\n",
-            b"",
-            b"2\r\nhi\r\n0\r\n\r\n",
-        ),
-        (
-            BodyKind::Chunked,
-            b"0\r\na: b\r\n\r\nGET",
-            b"",
-            b"0\r\na: b\r\n\r\n",
-        ),
-        (
-            BodyKind::Chunked,
-            b"2\r\nhi\r\n2\r\nh",
-            b"o\r\n0\r\n\r\n",
-            b"2\r\nhi\r\n",
-        ),
-        (
-            BodyKind::Chunked,
-            b"2\r\nhi\r\n0\r\na: b\r\n",
-            b"\r\n",
-            b"2\r\nhi\r\n",
-        ),
-        (BodyKind::Chunked, b"2\r\nhi\r", b"\n0\r\n\r\n", b""),
-        (BodyKind::Chunked, b"2\r\nhi\r\nx", b"", b"2\r\nhi\r\n"),
-    ];
-    for (kind, behind, later, together) in cases {
-        let request = Outgoing::new(HEAD, kind, behind, false);
+    for (kind, behind, later, together) in ROWS {
+        let request = Outgoing::new(HEAD, *kind, behind, false);
         let mut client = ScriptedWire::new(rt.alloc(), later, Script::SMOOTH);
         let mut none_taken = server(rt.alloc(), usize::MAX, 0);
         let none = exchange(&request, &mut client, &mut none_taken);
-        let untouched = client.unread() == later;
+        let untouched = client.unread() == *later;
         let mut one_taken = server(rt.alloc(), usize::MAX, 1);
         let _one = exchange(&request, &mut client, &mut one_taken);
         assert!(rt;
             none == Err(ExchangeFault::Send(SendFault::Head(WireFault::Timeout)))
                 && none_taken.written().is_empty()
                 && untouched
-                && one_taken.written().strip_prefix(HEAD) == Some(together),
+                && one_taken.written().strip_prefix(HEAD) == Some(*together),
             "{kind:?} {behind:?}"
         );
     }

@@ -15,29 +15,28 @@ enum End {
     Refused,
 }
 
+// The limit, the openings, how the wait ends, and the moments that were told.
+type Row = (Option<u32>, &'static [ScriptedOpening], End, &'static [u64]);
+
+const ROWS: &[Row] = &[
+    (Some(120), &[FULL; 9], End::Over, &[0, 50, 100, 150]),
+    (Some(100), &[FULL; 9], End::Over, &[0, 50, 100]),
+    (Some(0), &[FULL; 9], End::Over, &[0]),
+    (Some(120), &[FULL; 2], End::Opened, &[0, 50]),
+    (None, &[FULL; 5], End::Opened, &[0, 50, 100, 150, 200]),
+    (Some(120), &[], End::Opened, &[]),
+    (
+        Some(120),
+        &[FULL, ScriptedOpening::NotServing],
+        End::NotServing,
+        &[0],
+    ),
+];
+
 // The clock moves by the pauses alone. The server is asked at once, and then 50 ms after each Full, until the wait is over.
 #[test]
 fn a_full_server_is_asked_every_50_milliseconds(rt: HostRuntime) {
-    let cases = [
-        (
-            Some(120),
-            [FULL; 9].as_slice(),
-            End::Over,
-            [0, 50, 100, 150].as_slice(),
-        ),
-        (Some(100), &[FULL; 9], End::Over, &[0, 50, 100]),
-        (Some(0), &[FULL; 9], End::Over, &[0]),
-        (Some(120), &[FULL; 2], End::Opened, &[0, 50]),
-        (None, &[FULL; 5], End::Opened, &[0, 50, 100, 150, 200]),
-        (Some(120), &[], End::Opened, &[]),
-        (
-            Some(120),
-            &[FULL, ScriptedOpening::NotServing],
-            End::NotServing,
-            &[0],
-        ),
-    ];
-    for (limit, openings, end, told) in cases {
+    for (limit, openings, end, told) in ROWS {
         let script = PortScript {
             asked: Asked::NoServer,
             openings,
@@ -47,7 +46,7 @@ fn a_full_server_is_asked_every_50_milliseconds(rt: HostRuntime) {
         };
         let mut port = ScriptedPort::new(rt.alloc(), &script);
         let mut clock = ScriptedClock::new(rt.alloc(), 0);
-        let waited = open_in_queue(&rt, &mut port, &mut clock, ServerId::new(3), limit);
+        let waited = open_in_queue(&rt, &mut port, &mut clock, ServerId::new(3), *limit);
         let ended = match waited {
             Ok(Waited::Opened(slot)) => {
                 let _shut = port.shut(&rt, slot);
@@ -57,6 +56,6 @@ fn a_full_server_is_asked_every_50_milliseconds(rt: HostRuntime) {
             Ok(Waited::Over) => End::Over,
             Err(_) => End::Refused,
         };
-        assert!(rt; ended == end && clock.told() == Some(told), "{limit:?}");
+        assert!(rt; ended == *end && clock.told() == Some(*told), "{limit:?}");
     }
 }
