@@ -1,8 +1,7 @@
 //! Random events at desks beside the plain machine, and random calls of threads: what came of it, as it is printed.
 
 use anyhow::{Result, bail};
-use lb_desk_tried::{Tried, try_events};
-use lb_desk_tried_threads::try_threads;
+use lb_desk_tried::{Tried, try_events, try_threads};
 use std::alloc::Global;
 use std::hash::{BuildHasherDefault, FoldHasher, RandomState};
 use std::random::RandomSource;

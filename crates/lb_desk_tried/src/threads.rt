@@ -3,6 +3,7 @@ ghost use Rattle.std.specs.Prelude.{◌≡◌, IfOk};
 ghost use Rattle.lb_desk_tie.specs.Receipts.{AreOf};
 
 use crate::visits::{Calls, Visitor};
+use crate::{Events, JournalFault, backend_in, judge};
 use anyhow::{Context, Result, bail};
 use lb_desk_model::{Backend, Entry};
 use lb_desk_ports::Refused;
@@ -10,7 +11,6 @@ use lb_desk_seat::Seat;
 use lb_desk_shared::{Naming, SharedDesk};
 use lb_desk_step::Desk;
 use lb_desk_tie::{Opened, Pass};
-use lb_desk_tried::{Events, JournalFault, backend_in, judge};
 use std::alloc::{AllocError, Global};
 use std::hash::RandomState;
 use std::marker::Brand;

@@ -1,5 +1,6 @@
 //! Random calls of one thread at one desk.
 
+use crate::Events;
 use dual_cert_plan::Sheet;
 use flow_planner::plan;
 use lb_desk_model::Shared;
@@ -7,7 +8,6 @@ use lb_desk_ports::{Asked, Mover, Opening, Port, Refused, Shut};
 use lb_desk_seat::Seat;
 use lb_desk_shared::Naming;
 use lb_desk_steer::Steer;
-use lb_desk_tried::Events;
 use std::alloc::Global;
 use std::hash::BuildHasher;
 use std::sync::Wait;

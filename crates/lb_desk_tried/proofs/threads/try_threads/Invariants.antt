@@ -1,5 +1,5 @@
 use Rattle.std.proofs.Common.{◌==◌, if◌then◌else◌}
-use Rattle.lb_desk_tried_threads.proofs.threads.try_threads.Given as goal
+use Rattle.lb_desk_tried.proofs.threads.try_threads.Given as goal
 
 abbrev pub ghosts-share-B-Tables : goal.ghosts-share-B-Tables
 ghosts-share-B-Tables g a = record { table_of = λ k. if k == 1 then a.opened.0 else a.opened.1 }
