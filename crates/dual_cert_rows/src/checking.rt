@@ -56,39 +56,41 @@ fn sheet_of_plan(alloc: Global, text: &[u8]) -> Result<Sheet, Fail> {
     Ok(plan.sheet(alloc)?)
 }
 
+/// Sheets, and the verdict on a plan for one pin of a server a with room for one.
+const OTHERS: &[(&str, &str)] = &[
+    (
+        "stickysheet 1\nversion 0\nserver a cap 1\ngroup 1 a a\nend\n",
+        "best pins 1 unplaced 0 moved 0",
+    ),
+    (
+        "stickysheet 1\nversion 7\nserver a cap 1\ngroup 1 a a\nend\n",
+        "best pins 1 unplaced 0 moved 0",
+    ),
+    (
+        "stickysheet 1\nversion 0\nserver a cap 2\ngroup 1 a a\nend\n",
+        "50 RowsDiffer",
+    ),
+    (
+        "stickysheet 1\nversion 0\nserver a cap 1\ngroup 2 a a\nend\n",
+        "50 RowsDiffer",
+    ),
+    (
+        "stickysheet 1\nversion 0\nserver b cap 1\ngroup 1 b b\nend\n",
+        "50 RowsDiffer",
+    ),
+    (
+        "stickysheet 2\nversion 0\nserver a cap 1\ngroup 1 a a 2\nend\n",
+        "50 RowsDiffer",
+    ),
+];
+
 // Versions and prices aren't compared; servers, capacities and pins by kind are.
 #[test]
 fn a_plan_is_for_one_sheet_alone(rt: HostRuntime) -> Result<(), Fail> {
     let plan = b"stickyplan 1\nversion 0\nserver a cap 1 price 0\nrow 1 a a a\nend\n";
     let plan = read_plan(rt.alloc(), plan)?;
-    let cases = [
-        (
-            "stickysheet 1\nversion 0\nserver a cap 1\ngroup 1 a a\nend\n",
-            "best pins 1 unplaced 0 moved 0",
-        ),
-        (
-            "stickysheet 1\nversion 7\nserver a cap 1\ngroup 1 a a\nend\n",
-            "best pins 1 unplaced 0 moved 0",
-        ),
-        (
-            "stickysheet 1\nversion 0\nserver a cap 2\ngroup 1 a a\nend\n",
-            "50 RowsDiffer",
-        ),
-        (
-            "stickysheet 1\nversion 0\nserver a cap 1\ngroup 2 a a\nend\n",
-            "50 RowsDiffer",
-        ),
-        (
-            "stickysheet 1\nversion 0\nserver b cap 1\ngroup 1 b b\nend\n",
-            "50 RowsDiffer",
-        ),
-        (
-            "stickysheet 2\nversion 0\nserver a cap 1\ngroup 1 a a 2\nend\n",
-            "50 RowsDiffer",
-        ),
-    ];
-    for (text, line) in &cases {
-        expect_verdict_of(&rt, rt.alloc(), text, &plan, line)?;
+    for (text, line) in OTHERS {
+        expect_verdict_of(&rt, rt.alloc(), *text, &plan, *line)?;
     }
     // A price of 5 at the server shows nothing for this sheet, and the sheet of that plan is the same.
     let priced = b"stickyplan 1\nversion 7\nserver a cap 1 price 5\nrow 1 a a a\nend\n";

@@ -1,8 +1,8 @@
 use crate::checking::expect_verdict;
-use crate::parts::{kind, server};
+use crate::parts::{is_server_of, kind, place_of, set_of};
 use crate::plans;
 use dual_cert::{Plan, PricedServer, Sheet, read_plan, read_sheet, write_plan, write_sheet};
-use lb_types::{Counted, NameFault, ServerId, ServerSet};
+use lb_types::Counted;
 use lb_types_pins::Row;
 use std::alloc::Global;
 use std::process::Abort;
@@ -54,19 +54,51 @@ fn expect_plans(rt: &impl Abort, alloc: Global, rows: &[(&str, &str)]) -> Result
 
 #[test]
 fn plans_go_round_and_are_judged(rt: HostRuntime) -> Result<(), Fail> {
-    expect_plans(&rt, rt.alloc(), &plans::PLANS)?;
-    expect_plans(&rt, rt.alloc(), &plans::INSTALLED)?;
-    expect_plans(&rt, rt.alloc(), &plans::AT_LIMITS)?;
-    for (count, usage, lines, line) in &plans::OF_MANY_SERVERS {
+    expect_plans(&rt, rt.alloc(), plans::PLANS)?;
+    expect_plans(&rt, rt.alloc(), plans::INSTALLED)?;
+    expect_plans(&rt, rt.alloc(), plans::AT_LIMITS)?;
+    for (count, usage, lines, line) in plans::OF_MANY_SERVERS {
         let text = plans::plan_of_servers(rt.alloc(), *count, usage, lines)?;
         expect_plan(&rt, rt.alloc(), &text, line)?;
     }
     Ok(())
 }
 
-fn priced(name: &str, capacity: Option<u32>, price: u64) -> Result<PricedServer, NameFault> {
-    let server = server(name, capacity)?;
-    Ok(PricedServer { server, price })
+/// Servers by name, capacity and price.
+const SERVERS: &[(&[u8], Option<u32>, u64)] = &[
+    (b"a", None, 0),
+    (b"b", Some(1), 9),
+    (b"c", Some(4), 0),
+];
+
+/// Rows by place, permitted servers, cost, new place and count.
+const ROWS: &[(Option<u8>, &[u8], u16, Option<u8>, u32)] = &[
+    (Some(0), &[1], 3, Some(1), 1),
+    (Some(1), &[1, 2], 1, None, 2),
+];
+
+fn is_server(found: &PricedServer, wanted: &(&[u8], Option<u32>, u64)) -> bool {
+    let (name, capacity, price) = *wanted;
+    is_server_of(&found.server, name, capacity) && found.price == price
+}
+
+fn is_row(found: &Row, wanted: &(Option<u8>, &[u8], u16, Option<u8>, u32)) -> bool {
+    let (place, permitted, cost, new_place, count) = *wanted;
+    found.kind == kind(place_of(place), set_of(permitted), cost)
+        && (found.new_place, found.count) == (place_of(new_place), count)
+}
+
+fn is_wanted(plan: &Plan) -> bool {
+    let (servers, rows) = (plan.servers(), plan.rows());
+    (plan.version(), servers.len(), rows.len()) == (7, SERVERS.len(), ROWS.len())
+        && servers
+            .iter()
+            .zip(SERVERS)
+            .all(|(found, wanted)| is_server(found, wanted))
+        && rows
+            .iter()
+            .zip(ROWS)
+            .all(|(found, wanted)| is_row(found, wanted))
 }
 
 #[test]
@@ -74,28 +106,7 @@ fn a_plan_is_read(rt: HostRuntime) -> Result<(), Fail> {
     let text =
         "stickyplan 2\nversion 7\nserver a off\nserver b cap 1 price 9\nserver c cap 4 price 0\n\
         row 1 a b b 3\nrow 2 b - b,c 1\nend\n";
-    let servers = [
-        priced("a", None, 0)?,
-        priced("b", Some(1), 9)?,
-        priced("c", Some(4), 0)?,
-    ];
-    let [a, b, c] = [ServerId::new(0), ServerId::new(1), ServerId::new(2)];
-    let only_b = ServerSet::empty().with(b);
-    let rows = [
-        Row {
-            kind: kind(Some(a), only_b, 3),
-            new_place: Some(b),
-            count: 1,
-        },
-        Row {
-            kind: kind(Some(b), only_b.with(c), 1),
-            new_place: None,
-            count: 2,
-        },
-    ];
     let plan = read_plan(rt.alloc(), text.as_bytes())?;
-    assert_eq!(rt; plan.version(), 7);
-    assert_eq!(rt; plan.servers(), servers.as_slice());
-    assert_eq!(rt; plan.rows(), rows.as_slice());
+    assert!(rt; is_wanted(&plan), "{:?} {:?}", plan.servers(), plan.rows());
     Ok(())
 }

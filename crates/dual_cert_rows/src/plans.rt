@@ -2,17 +2,18 @@
 
 use std::alloc::{AllocError, Global};
 
+/// A plan of four pins, two of which move.
+pub(crate) const FOUR_PINS: &str =
+    "stickyplan 1\nversion 1\nserver a off\nserver b cap 2 price 0\nserver c cap 2 price 0\n\
+        row 1 a b b,c\nrow 1 a c b,c\nrow 1 b b b,c\nrow 1 c c b,c\nend\n";
+
 /// Plans, those that are best and those that the check refuses, each for its own sheet.
-pub(crate) const PLANS: [(&str, &str); 24] = [
+pub(crate) const PLANS: &[(&str, &str)] = &[
     (
         "stickyplan 1\nversion 0\nserver a cap 2 price 0\nend\n",
         "best pins 0 unplaced 0 moved 0",
     ),
-    (
-        "stickyplan 1\nversion 1\nserver a off\nserver b cap 2 price 0\nserver c cap 2 price 0\n\
-            row 1 a b b,c\nrow 1 a c b,c\nrow 1 b b b,c\nrow 1 c c b,c\nend\n",
-        "best pins 4 unplaced 0 moved 2",
-    ),
+    (FOUR_PINS, "best pins 4 unplaced 0 moved 2"),
     // A pin that is tied to b takes the place of one that c may have: cost 2, bound 2 + 1 - 1.
     (
         "stickyplan 1\nversion 1\nserver a off\nserver b cap 1 price 1\nserver c cap 1 price 0\n\
@@ -123,7 +124,7 @@ pub(crate) const PLANS: [(&str, &str); 24] = [
 ];
 
 /// Plans for a table of two servers. A table would turn some of them away that are best for their own sheets.
-pub(crate) const INSTALLED: [(&str, &str); 8] = [
+pub(crate) const INSTALLED: &[(&str, &str)] = &[
     (
         "stickyplan 1\nversion 1\nserver a cap 5 price 0\nserver b cap 5 price 0\nrow 1 a a a,b\nend\n",
         "best pins 1 unplaced 0 moved 0",
@@ -162,7 +163,7 @@ pub(crate) const INSTALLED: [(&str, &str); 8] = [
 ];
 
 /// Plans with the largest numbers, and without servers.
-pub(crate) const AT_LIMITS: [(&str, &str); 6] = [
+pub(crate) const AT_LIMITS: &[(&str, &str)] = &[
     (
         "stickyplan 1\nversion 9223372036854775808\nend\n",
         "best pins 0 unplaced 0 moved 0",
@@ -193,7 +194,7 @@ pub(crate) const AT_LIMITS: [(&str, &str); 6] = [
 ];
 
 /// Plans of many servers: how many there are called `s1`, `s2` and so on, the usage of each, and what stands behind them.
-pub(crate) const OF_MANY_SERVERS: [(u32, &str, &str, &str); 5] = [
+pub(crate) const OF_MANY_SERVERS: &[(u32, &str, &str, &str)] = &[
     // The set of the 64th server stands before that of the 65th, and both before the set of the two. The third pin finds no
     // room: cost 1 + 1 + 4, bound 4 + 4 + 4 - 3 - 3.
     (

@@ -3,7 +3,7 @@
 use crate::plans::text_of_servers;
 use std::alloc::{AllocError, Global};
 
-pub(crate) const SHEETS: [&str; 27] = [
+pub(crate) const SHEETS: &[&str] = &[
     // The pin of b makes way for the one that may go nowhere else.
     "stickysheet 1\nversion 1\nserver a off\nserver b cap 1\nserver c cap 1\n\
             group 1 a b\ngroup 1 b b,c\nend\n",
@@ -46,7 +46,7 @@ pub(crate) const SHEETS: [&str; 27] = [
 ];
 
 /// Sheets of many servers, called `s1`, `s2` and so on, with room for one pin each, and what stands behind them.
-pub(crate) const OF_MANY_SERVERS: [(u32, &str); 3] = [
+pub(crate) const OF_MANY_SERVERS: &[(u32, &str)] = &[
     (65, "group 1 - s64\ngroup 1 - s65\nend\n"),
     (128, "group 1 - s128\nend\n"),
     (128, "group 1 - s64,s65,s128\ngroup 2 s128 s1,s128\nend\n"),

@@ -1,10 +1,9 @@
 //! The sheet of a view, and plans spread over the pins of one. Servers of numbered views are called `aa`, `ab` and so on.
 ghost use Rattle.std.specs.Prelude.{◌≡◌, IfOk, map};
 
-use crate::parts::{group_of, server};
-use dual_cert::{Plan, Server, Sheet, read_plan};
-use lb_types::{Place, ServerId, ServerSet};
-use lb_types_pins::Group;
+use crate::parts::{GroupRow, ServerRow, are_groups, are_servers, place_of, set_of};
+use dual_cert::{Plan, Sheet, read_plan};
+use lb_types::{Place, ServerSet};
 use pin_groups::{group, sheet_of};
 use pin_groups_spread::{PlainPin, numbered_view, spread_best};
 use pin_set::{Pin, PinCount, View};
@@ -24,22 +23,55 @@ fn view_of(
     }
 }
 
-fn pin(place: Place, want: ServerSet, cost: u16) -> PlainPin {
-    PlainPin { place, want, cost }
+/// A pin by place, wanted servers and cost.
+type PinRow = (Option<u8>, &'static [u8], u16);
+
+fn pins_of(alloc: Global, rows: &[PinRow]) -> Result<Vec<PlainPin>, AllocError> {
+    let mut pins = Vec::new(alloc);
+    for (place, want, cost) in rows {
+        pins.push(PlainPin {
+            place: place_of(*place),
+            want: set_of(*want),
+            cost: *cost,
+        })?;
+    }
+    Ok(pins)
 }
 
-/// A view, and what its sheet has.
-#[derive(Clone, Copy)]
-struct Worked<'a> {
-    usable: ServerSet,
-    capacities: &'a [u32],
-    pins: &'a [PlainPin],
-    servers: &'a [Server],
-    groups: &'a [Group],
+/// A view by its usable servers, the capacities of all and its pins, and what its sheet has.
+struct Worked {
+    usable: &'static [u8],
+    capacities: &'static [u32],
+    pins: &'static [PinRow],
+    servers: &'static [ServerRow],
+    groups: &'static [GroupRow],
 }
 
-fn expect_sheet(rt: &impl Abort, alloc: Global, worked: &Worked<'_>) -> Result<(), Fail> {
-    let view = view_of(alloc, worked.usable, worked.capacities, worked.pins)?;
+/// Two pins of one place and cost that want different servers, and one that has no place.
+const UNLIKE: &[PinRow] = &[(Some(0), &[], 3), (Some(0), &[0], 3), (None, &[1], 7)];
+
+const WORKED: &[Worked] = &[
+    // The pins differ in what they want, which no longer matters where no server is usable.
+    Worked {
+        usable: &[],
+        capacities: &[1],
+        pins: UNLIKE,
+        servers: &[(b"aa", None)],
+        groups: &[(1, None, &[], 7), (2, Some(0), &[], 3)],
+    },
+    // Of three servers the second isn't usable. A pin that wants it may go to both others, as one that wants none may.
+    Worked {
+        usable: &[0, 2],
+        capacities: &[7, 8, 9],
+        pins: &[(Some(0), &[], 1), (Some(0), &[0], 1), (Some(0), &[1], 1)],
+        servers: &[(b"aa", Some(7)), (b"ab", None), (b"ac", Some(9))],
+        groups: &[(1, Some(0), &[0], 1), (2, Some(0), &[0, 2], 1)],
+    },
+];
+
+fn expect_sheet(rt: &impl Abort, alloc: Global, worked: &Worked) -> Result<(), Fail> {
+    let pins = pins_of(alloc, worked.pins)?;
+    let view = view_of(alloc, set_of(worked.usable), worked.capacities, &pins)?;
     expect_sheet_of(rt, alloc, &view, worked)
 }
 
@@ -48,14 +80,14 @@ fn expect_sheet_of(
     rt: &impl Abort,
     alloc: Global,
     view: &View,
-    worked: &Worked<'_>,
+    worked: &Worked,
 ) -> Result<(), Fail> {
     let sheet = group(alloc, view, 5)?;
     let counted = sheet_of_counts(alloc, view)?;
-    assert_eq!(rt; sheet.version(), 5);
-    assert_eq!(rt; sheet.servers(), worked.servers);
-    assert_eq!(rt; sheet.groups(), worked.groups);
-    assert_eq!(rt; counted, sheet);
+    let is_right = sheet.version() == 5
+        && are_servers(sheet.servers(), worked.servers)
+        && are_groups(sheet.groups(), worked.groups);
+    assert!(rt; is_right && counted == sheet, "{sheet:?} {counted:?}");
     Ok(())
 }
 
@@ -92,44 +124,10 @@ fn one_each(pin: &Pin) -> PinCount
 fn a_sheet_has_a_group_for_each_place_permitted_set_and_cost_in_rising_order(
     rt: HostRuntime,
 ) -> Result<(), Fail> {
-    let none = ServerSet::empty();
-    let a = ServerId::new(0);
-    let only_a = none.with(a);
-    let only_b = none.with(ServerId::new(1));
-    // The pins differ in what they want, which no longer matters where no server is usable.
-    let unusable = Worked {
-        usable: none,
-        capacities: &[1],
-        pins: &[
-            pin(Some(a), none, 3),
-            pin(Some(a), only_a, 3),
-            pin(None, only_b, 7),
-        ],
-        servers: &[server("aa", None)?],
-        groups: &[group_of(1, None, none, 7), group_of(2, Some(a), none, 3)],
-    };
-    expect_sheet(&rt, rt.alloc(), &unusable)?;
-    // Of three servers the second isn't usable. A pin that wants it may go to both others, as one that wants none may.
-    let usable = only_a.with(ServerId::new(2));
-    let one_unusable = Worked {
-        usable,
-        capacities: &[7, 8, 9],
-        pins: &[
-            pin(Some(a), none, 1),
-            pin(Some(a), only_a, 1),
-            pin(Some(a), only_b, 1),
-        ],
-        servers: &[
-            server("aa", Some(7))?,
-            server("ab", None)?,
-            server("ac", Some(9))?,
-        ],
-        groups: &[
-            group_of(1, Some(a), only_a, 1),
-            group_of(2, Some(a), usable, 1),
-        ],
-    };
-    expect_sheet(&rt, rt.alloc(), &one_unusable)
+    for worked in WORKED {
+        expect_sheet(&rt, rt.alloc(), worked)?;
+    }
+    Ok(())
 }
 
 /// The plan gives the pins of the view these places.
@@ -150,19 +148,12 @@ fn expect_places(
 // A pin stays while the plan keeps one of its kind, whatever it wants, and the places are those of the pins in their order.
 #[test]
 fn a_plan_is_spread_over_the_pins_of_a_view(rt: HostRuntime) -> Result<(), Fail> {
-    let none = ServerSet::empty();
-    let a = ServerId::new(0);
-    let only_a = none.with(a);
-    let only_b = none.with(ServerId::new(1));
-    let pins = [
-        pin(Some(a), none, 3),
-        pin(Some(a), only_a, 3),
-        pin(None, only_b, 7),
-    ];
     // U is 14: to lose the place costs 17, and each place is worth that.
     let text = b"stickyplan 2\nversion 5\nserver aa cap 1 price 17\n\
         row 1 - - aa 7\nrow 1 aa - aa 3\nrow 1 aa aa aa 3\nend\n";
     let plan = read_plan(rt.alloc(), text)?;
-    let view = view_of(rt.alloc(), only_a, &[1], &pins)?;
-    expect_places(&rt, rt.alloc(), &view, &plan, &[Some(a), None, None])
+    let pins = pins_of(rt.alloc(), UNLIKE)?;
+    let view = view_of(rt.alloc(), set_of(&[0]), &[1], &pins)?;
+    let a = place_of(Some(0));
+    expect_places(&rt, rt.alloc(), &view, &plan, &[a, None, None])
 }

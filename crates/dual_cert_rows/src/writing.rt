@@ -1,7 +1,9 @@
 //! Writers that fail.
 
 use crate::{plans, sheets};
-use dual_cert::{Plan, ReadError, WriteFailed, read_plan, read_sheet, write_plan, write_sheet};
+use dual_cert::{
+    Plan, ReadError, Sheet, WriteFailed, read_plan, read_sheet, write_plan, write_sheet,
+};
 use lb_types::Counted;
 use std::alloc::Global;
 use std::io;
@@ -54,20 +56,22 @@ impl Write for Faulty {
     }
 }
 
-/// Writes the plan of the text, or the sheet of it.
-fn write_again(
-    alloc: Global,
-    text: &str,
-    out: &mut Counted<Faulty>,
-) -> Result<Result<(), WriteFailed>, ReadError> {
+/// What a text spells.
+#[derive(Drop)]
+enum Document {
+    Plan(Plan),
+    Sheet(Sheet),
+}
+
+fn read(alloc: Global, text: &str) -> Result<Document, ReadError> {
     if text.starts_with("stickyplan") {
-        Ok(write_plan(&read_plan(alloc, text.as_bytes())?, out))
+        Ok(Document::Plan(read_plan(alloc, text.as_bytes())?))
     } else {
-        Ok(write_sheet(&read_sheet(alloc, text.as_bytes())?, out))
+        Ok(Document::Sheet(read_sheet(alloc, text.as_bytes())?))
     }
 }
 
-/// What came of a text that was written.
+/// What came of a document that was written.
 #[derive(Drop)]
 struct Written {
     result: Result<(), WriteFailed>,
@@ -75,58 +79,63 @@ struct Written {
     taken: Vec<u8>,
 }
 
-fn write_to(alloc: Global, text: &str, writer: Faulty) -> Result<Written, ReadError> {
+fn write_to(document: &Document, writer: Faulty) -> Written {
     let mut out = Counted::new(writer);
-    let result = write_again(alloc, text, &mut out)?;
-    Ok(Written {
+    let result = match document {
+        Document::Plan(plan) => write_plan(plan, &mut out),
+        Document::Sheet(sheet) => write_sheet(sheet, &mut out),
+    };
+    Written {
         result,
         failures: out.failures(),
         taken: out.into_inner().taken,
-    })
+    }
 }
 
-/// Whether the whole text was written. If not, a beginning of it was, of at least so many bytes.
-fn is_whole(rt: &impl Abort, text: &str, written: &Written, least: usize) -> bool {
+/// Whether the whole text was written without a failure, or a beginning of it with one, of at least so many bytes.
+fn is_right(text: &str, written: &Written, least: usize) -> bool {
     let taken = written.taken.as_slice();
-    let Err(fault) = &written.result else {
-        assert_eq!(rt; written.failures, 0);
-        assert_eq!(rt; taken, text.as_bytes());
-        return true;
-    };
-    assert_eq!(rt; fault.text(), "44 WriteFailed");
-    assert_eq!(rt; written.failures, 1);
-    assert!(rt;
-        text.as_bytes().starts_with(taken) && least <= taken.len(),
-        "at least {least} bytes of {text}"
-    );
-    false
+    match &written.result {
+        Ok(()) => written.failures == 0 && taken == text.as_bytes(),
+        Err(fault) => {
+            (fault.text(), written.failures) == ("44 WriteFailed", 1)
+                && text.as_bytes().starts_with(taken)
+                && least <= taken.len()
+        }
+    }
 }
 
-/// Writes the text to writers that give up at each write in turn, and tells how many writes the whole text took.
+/// Writes the document of the text to writers that give up at each write in turn, and tells how many writes the whole text took.
 fn writes_needed(
     rt: &impl Abort,
     alloc: Global,
+    document: &Document,
     text: &str,
     at_most: usize,
     then: Then,
-) -> Result<usize, ReadError> {
+) -> usize {
     let mut least = 0;
     for writes in 0..=text.len() {
-        let written = write_to(alloc, text, Faulty::new(alloc, writes, at_most, then))?;
-        if is_whole(rt, text, &written, least) {
-            return Ok(writes);
+        let written = write_to(document, Faulty::new(alloc, writes, at_most, then));
+        assert!(rt;
+            is_right(text, &written, least),
+            "at least {least} bytes of {text}"
+        );
+        if written.result.is_ok() {
+            return writes;
         }
         // Each write goes on where the last one stopped.
         least = written.taken.len().saturating_add(1);
     }
-    Ok(usize::MAX)
+    usize::MAX
 }
 
 /// A failed write leaves a beginning of the text, and byte by byte each byte takes one write.
 fn expect_beginnings(rt: &impl Abort, alloc: Global, text: &str) -> Result<(), ReadError> {
-    for then in [Then::Fails, Then::TakesNothing] {
-        let whole = writes_needed(rt, alloc, text, usize::MAX, then)?;
-        let bytewise = writes_needed(rt, alloc, text, 1, then)?;
+    let document = read(alloc, text)?;
+    for then in &[Then::Fails, Then::TakesNothing] {
+        let whole = writes_needed(rt, alloc, &document, text, usize::MAX, *then);
+        let bytewise = writes_needed(rt, alloc, &document, text, 1, *then);
         assert!(rt; whole < text.len() && bytewise == text.len(), "{text}");
     }
     Ok(())
@@ -134,13 +143,13 @@ fn expect_beginnings(rt: &impl Abort, alloc: Global, text: &str) -> Result<(), R
 
 #[test]
 fn a_failed_write_leaves_a_beginning_of_the_text(rt: HostRuntime) -> Result<(), Fail> {
-    for (text, _line) in &plans::PLANS {
+    for (text, _line) in plans::PLANS {
         expect_beginnings(&rt, rt.alloc(), text)?;
     }
-    for (text, _line) in &plans::AT_LIMITS {
+    for (text, _line) in plans::AT_LIMITS {
         expect_beginnings(&rt, rt.alloc(), text)?;
     }
-    for text in &sheets::SHEETS {
+    for text in sheets::SHEETS {
         expect_beginnings(&rt, rt.alloc(), text)?;
     }
     Ok(())
@@ -156,7 +165,7 @@ fn write_buffered(alloc: Global, plan: &Plan, bytes: &mut Vec<u8>) -> Result<(),
 
 #[test]
 fn a_buffered_writer_gets_the_same_bytes(rt: HostRuntime) -> Result<(), Fail> {
-    let text = plans::PLANS[1].0;
+    let text = plans::FOUR_PINS;
     let plan = read_plan(rt.alloc(), text.as_bytes())?;
     let mut bytes = Vec::new(rt.alloc());
     write_buffered(rt.alloc(), &plan, &mut bytes)?;

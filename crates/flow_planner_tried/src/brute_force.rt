@@ -12,40 +12,59 @@ use std::collections::BTreeMap;
 use std::process::Abort;
 use std::test::Fail;
 
-/// All lists of `len` digits below a base.
-fn all_digits(alloc: Global, base: u8, len: usize) -> Result<Vec<Vec<u8>>, AllocError> {
-    let mut all = Vec::new(alloc);
-    all.push(Vec::new(alloc))?;
-    for _ in 0..len {
-        let mut longer = Vec::new(alloc);
-        for shorter in &all {
-            for digit in 0..base {
-                let mut digits = shorter.clone()?;
-                digits.push(digit)?;
-                longer.push(digits)?;
-            }
-        }
-        all = longer;
-    }
-    Ok(all)
+/// Which digits may stand behind a list of them.
+#[derive(Clone, Copy)]
+enum Order {
+    Any,
+    Rising,
 }
 
-/// All lists of `len` rising digits below a base.
-fn rising_digits(alloc: Global, base: u8, len: usize) -> Result<Vec<Vec<u8>>, AllocError> {
-    let mut all = Vec::new(alloc);
-    all.push(Vec::new(alloc))?;
+/// All lists of `len` digits below a base, in this order.
+fn digit_lists(
+    alloc: Global,
+    base: u8,
+    len: usize,
+    order: Order,
+) -> Result<Vec<Vec<u8>>, AllocError> {
+    let mut lists = Vec::new(alloc);
+    lists.push(Vec::new(alloc))?;
     for _ in 0..len {
-        let mut longer = Vec::new(alloc);
-        for shorter in &all {
-            for digit in shorter.last().copied().unwrap_or(0)..base {
-                let mut digits = shorter.clone()?;
-                digits.push(digit)?;
-                longer.push(digits)?;
-            }
-        }
-        all = longer;
+        lists = lists_behind(alloc, &lists, base, order)?;
     }
-    Ok(all)
+    Ok(lists)
+}
+
+/// Each list with each digit behind it.
+fn lists_behind(
+    alloc: Global,
+    lists: &[Vec<u8>],
+    base: u8,
+    order: Order,
+) -> Result<Vec<Vec<u8>>, AllocError> {
+    let mut longer = Vec::new(alloc);
+    for list in lists {
+        let least = match order {
+            Order::Any => 0,
+            Order::Rising => list.last().copied().unwrap_or(0),
+        };
+        add_digits(&mut longer, list, least, base)?;
+    }
+    Ok(longer)
+}
+
+/// Adds the list with each digit from the least one on behind it.
+fn add_digits(
+    longer: &mut Vec<Vec<u8>>,
+    list: &Vec<u8>,
+    least: u8,
+    base: u8,
+) -> Result<(), AllocError> {
+    for digit in least..base {
+        let mut digits = list.clone()?;
+        digits.push(digit)?;
+        longer.push(digits)?;
+    }
+    Ok(())
 }
 
 /// A pin of each kind that there can be: each place, each permitted set, cost 1 and cost 2.
@@ -99,34 +118,62 @@ fn assert_best(
     ) else {
         return Err(Fail::new("a plan is accepted, and some assignment is best"));
     };
+    let size = small.size();
     let found = (score.pins, score.unplaced, score.cost);
-    assert_eq!(rt; found, (small.size(), best.unplaced, best.cost), "{pins:?}");
-    assert!(rt; planned.pushes() <= small.size(), "{pins:?}");
+    let wanted = (size, best.unplaced, best.cost);
+    assert_eq!(rt;
+        (found, planned.pushes() <= size),
+        (wanted, true),
+        "{pins:?}"
+    );
     Ok(())
+}
+
+/// The sheet of servers with these rooms, and of a pin of each chosen kind.
+fn small_sheet(
+    alloc: Global,
+    rooms: &[u8],
+    kinds: &[PlainKind],
+    chosen: &[u8],
+) -> Result<PlainSheet, AllocError> {
+    let mut small = PlainSheet {
+        capacities: capacities_of(alloc, rooms, chosen.len())?,
+        groups: BTreeMap::new(alloc),
+    };
+    for kind in chosen
+        .iter()
+        .filter_map(|kind| kinds.get(usize::from(*kind)))
+    {
+        small.add(*kind, 1)?;
+    }
+    Ok(small)
+}
+
+/// Tries all sheets of servers with these rooms and of so many pins, and gives their number.
+fn try_rooms(
+    rt: &impl Abort,
+    alloc: Global,
+    rooms: &[u8],
+    pins: usize,
+    assignments: &[Vec<Spot>],
+) -> Result<u64, Fail> {
+    let capacities = capacities_of(alloc, rooms, pins)?;
+    let kinds = kinds(alloc, (rooms.len() % 256) as u8, usable(&capacities))?;
+    let choices = digit_lists(alloc, (kinds.len() % 256) as u8, pins, Order::Rising)?;
+    for chosen in &choices {
+        let small = small_sheet(alloc, rooms, &kinds, chosen)?;
+        assert_best(rt, alloc, &small, assignments)?;
+    }
+    Ok(choices.len() as u64)
 }
 
 /// Tries all sheets of so many servers and pins, and gives their number.
 fn try_all(rt: &impl Abort, alloc: Global, servers: u8, pins: usize) -> Result<u64, Fail> {
-    let assignments = all_digits(alloc, servers.saturating_add(1), pins)?;
+    let assignments = digit_lists(alloc, servers.saturating_add(1), pins, Order::Any)?;
     let off = (pins.saturating_add(1) % 254) as u8;
     let mut tried = 0u64;
-    for rooms in &rising_digits(alloc, off + 1, usize::from(servers))? {
-        let capacities = capacities_of(alloc, rooms, pins)?;
-        let kinds = kinds(alloc, servers, usable(&capacities))?;
-        for chosen in &rising_digits(alloc, (kinds.len() % 256) as u8, pins)? {
-            let mut small = PlainSheet {
-                capacities: capacities_of(alloc, rooms, pins)?,
-                groups: BTreeMap::new(alloc),
-            };
-            for kind in chosen
-                .iter()
-                .filter_map(|kind| kinds.get(usize::from(*kind)))
-            {
-                small.add(*kind, 1)?;
-            }
-            assert_best(rt, alloc, &small, &assignments)?;
-            tried = tried.saturating_add(1);
-        }
+    for rooms in &digit_lists(alloc, off + 1, usize::from(servers), Order::Rising)? {
+        tried = tried.saturating_add(try_rooms(rt, alloc, rooms, pins, &assignments)?);
     }
     Ok(tried)
 }
@@ -187,7 +234,7 @@ fn plans_of_a_sample_of_larger_sheets_are_best(rt: HostRuntime) -> Result<(), Fa
     let alloc = rt.alloc();
     let mut assignments = Vec::new(alloc);
     for pins in 0..6 {
-        assignments.push(all_digits(alloc, 4, pins)?)?;
+        assignments.push(digit_lists(alloc, 4, pins, Order::Any)?)?;
     }
     let mut dice = Dice::new(20261122);
     for _ in 0..100000 {

@@ -4,11 +4,12 @@
 use cert_check::check;
 use dual_cert::{Plan, read_sheet};
 use flow_planner::plan;
+use std::process::Abort;
 use std::test::Fail;
 
 /// Texts of sheets; how many pins each server is to have in the end; and by how many a server may have more or fewer: an eighth
 /// of what a server gets on average, and one for each server that gets some.
-const FARMS: [(&str, &[u32], u32); 9] = [
+const FARMS: &[(&str, &[u32], u32)] = &[
     // One of four equal servers is drained.
     (
         "stickysheet 1\nversion 1\nserver a off\nserver b cap 1000000\nserver c cap 1000000\nserver d cap 1000000\n\
@@ -84,19 +85,24 @@ fn load(plan: &Plan, server: usize) -> u32 {
         .fold(0, |sum: u32, row| sum.saturating_add(row.count))
 }
 
+/// The plan of the text's sheet has these loads, or up to so many pins more or fewer.
+fn expect_loads(rt: &impl Abort, plan: &Plan, loads: &[u32], within: u32, text: &str) {
+    for (server, wanted) in loads.iter().enumerate() {
+        let load = load(plan, server);
+        assert!(rt;
+            load.abs_diff(*wanted) <= within,
+            "{load} at {server} of {text}"
+        );
+    }
+}
+
 #[test]
 fn pins_that_can_not_stay_are_spread_by_share_of_capacity(rt: HostRuntime) -> Result<(), Fail> {
     for (text, loads, within) in FARMS {
         let sheet = read_sheet(rt.alloc(), text.as_bytes())?;
         let planned = plan(rt.alloc(), &sheet)?;
         assert!(rt; check(&sheet, planned.plan()).is_ok(), "{text}");
-        for (server, wanted) in loads.iter().enumerate() {
-            let load = load(planned.plan(), server);
-            assert!(rt;
-                load.abs_diff(*wanted) <= within,
-                "{load} at {server} of {text}"
-            );
-        }
+        expect_loads(&rt, planned.plan(), *loads, *within, *text);
     }
     Ok(())
 }

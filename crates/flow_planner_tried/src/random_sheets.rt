@@ -5,6 +5,7 @@ use cert_check::check;
 use flow_planner::plan;
 use std::alloc::{AllocError, Global};
 use std::collections::BTreeMap;
+use std::process::Abort;
 use std::test::Fail;
 
 /// Numbers that look random and are the same in each run.
@@ -70,21 +71,25 @@ fn random_sheet(alloc: Global, dice: &mut Dice) -> Result<PlainSheet, AllocError
     Ok(plain)
 }
 
+/// Plans the sheet, which the check has to accept, with at most one push a pin, and tells how many pushes it took.
+fn pushes_of(rt: &impl Abort, alloc: Global, plain: &PlainSheet) -> Result<u64, Fail> {
+    let sheet = plain.sheet(alloc)?;
+    let planned = plan(alloc, &sheet)?;
+    let Ok(score) = check(&sheet, planned.plan()) else {
+        return Err(Fail::new("a plan is accepted"));
+    };
+    let found = (score.pins, planned.pushes() <= plain.size());
+    assert_eq!(rt; found, (plain.size(), true));
+    Ok(planned.pushes())
+}
+
 #[test]
 fn plans_of_random_sheets_are_accepted(rt: HostRuntime) -> Result<(), Fail> {
-    let alloc = rt.alloc();
     let mut dice = Dice::new(1000003);
     let mut pushes = 0u64;
     for _ in 0..3000 {
-        let plain = random_sheet(alloc, &mut dice)?;
-        let sheet = plain.sheet(alloc)?;
-        let planned = plan(alloc, &sheet)?;
-        let Ok(score) = check(&sheet, planned.plan()) else {
-            return Err(Fail::new("a plan is accepted"));
-        };
-        assert_eq!(rt; score.pins, plain.size());
-        assert!(rt; planned.pushes() <= plain.size());
-        pushes = pushes.saturating_add(planned.pushes());
+        let plain = random_sheet(rt.alloc(), &mut dice)?;
+        pushes = pushes.saturating_add(pushes_of(&rt, rt.alloc(), &plain)?);
     }
     // The sample isn't of sheets alone that need no push.
     assert!(rt; pushes > 3000);

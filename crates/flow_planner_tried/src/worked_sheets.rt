@@ -1,16 +1,17 @@
 //! Sheets whose best plans are found by hand.
 
-use cert_check::check;
-use dual_cert::{read_plan, read_sheet, write_plan};
+use cert_check::{CheckFault, check};
+use dual_cert::{Sheet, read_plan, read_sheet, write_plan};
 use flow_planner::{Planned, plan};
 use lb_types::Counted;
 use pin_set::Score;
 use std::alloc::Global;
+use std::process::Abort;
 use std::test::Fail;
 
 /// Texts of sheets; and of their best plans how many pins they have, how many of them go without a server, how many move,
 /// and at which cost.
-const SHEETS: [(&str, u64, u64, u64, u64); 16] = [
+const SHEETS: &[(&str, u64, u64, u64, u64)] = &[
     // No server and no pin; no server; all servers off.
     ("stickysheet 1\nversion 3\nend\n", 0, 0, 0, 0),
     ("stickysheet 1\nversion 3\ngroup 5 - -\nend\n", 5, 5, 0, 0),
@@ -143,70 +144,90 @@ fn written(alloc: Global, planned: &Planned) -> Result<Vec<u8>, Fail> {
     Ok(out.into_inner())
 }
 
+/// What the check says of the plan for the sheet, and of the plan that is read from its text, for that one's sheet.
+fn verdicts(
+    alloc: Global,
+    sheet: &Sheet,
+    planned: &Planned,
+) -> Result<(Result<Score, CheckFault>, Result<Score, CheckFault>), Fail> {
+    let text = written(alloc, planned)?;
+    let again = read_plan(alloc, &text)?;
+    let own_sheet = again.sheet(alloc)?;
+    Ok((check(sheet, planned.plan()), check(&own_sheet, &again)))
+}
+
+/// The best plan for the sheet of this text has this score, also once it is written and read.
+fn expect_score(rt: &impl Abort, alloc: Global, text: &str, score: Score) -> Result<(), Fail> {
+    let sheet = read_sheet(alloc, text.as_bytes())?;
+    let planned = plan(alloc, &sheet)?;
+    let found = (verdicts(alloc, &sheet, &planned)?, planned.plan().version());
+    let wanted = ((Ok(score), Ok(score)), sheet.version());
+    assert_eq!(rt; found, wanted, "{text}");
+    Ok(())
+}
+
 // What goes out as text is read again as a plan that is accepted.
 #[test]
 fn plans_have_the_scores_that_were_found_by_hand_also_once_written_and_read(
     rt: HostRuntime,
 ) -> Result<(), Fail> {
     for (text, pins, unplaced, moved, cost) in SHEETS {
-        let sheet = read_sheet(rt.alloc(), text.as_bytes())?;
-        let planned = plan(rt.alloc(), &sheet)?;
-        let again = read_plan(rt.alloc(), &written(rt.alloc(), &planned)?)?;
-        let own_sheet = again.sheet(rt.alloc())?;
         let score = Score {
-            pins,
-            unplaced,
-            moved,
-            cost,
+            pins: *pins,
+            unplaced: *unplaced,
+            moved: *moved,
+            cost: *cost,
         };
-        let scores = (check(&sheet, planned.plan()), check(&own_sheet, &again));
-        assert_eq!(rt; scores, (Ok(score), Ok(score)), "{text}");
-        assert_eq!(rt; planned.plan().version(), sheet.version(), "{text}");
+        expect_score(&rt, rt.alloc(), *text, score)?;
     }
     Ok(())
 }
 
+/// Texts of sheets, and those of their plans.
+const PRICES: &[(&str, &str)] = &[
+    (
+        "stickysheet 1\nversion 0\nserver a cap 2\nend\n",
+        "stickyplan 1\nversion 0\nserver a cap 2 price 0\nend\n",
+    ),
+    (
+        "stickysheet 2\nversion 4\nserver a cap 2\nserver b off\ngroup 1 b a 3\nend\n",
+        "stickyplan 2\nversion 4\nserver a cap 2 price 0\nserver b off\nrow 1 b a a 3\nend\n",
+    ),
+];
+
 #[test]
 fn prices_are_nought_where_there_is_room_or_no_pin(rt: HostRuntime) -> Result<(), Fail> {
-    let cases = [
-        (
-            "stickysheet 1\nversion 0\nserver a cap 2\nend\n",
-            "stickyplan 1\nversion 0\nserver a cap 2 price 0\nend\n",
-        ),
-        (
-            "stickysheet 2\nversion 4\nserver a cap 2\nserver b off\ngroup 1 b a 3\nend\n",
-            "stickyplan 2\nversion 4\nserver a cap 2 price 0\nserver b off\nrow 1 b a a 3\nend\n",
-        ),
-    ];
-    for (sheet, plan) in cases {
-        let written = plan_text(rt.alloc(), sheet)?;
+    for (sheet, plan) in PRICES {
+        let written = plan_text(rt.alloc(), *sheet)?;
         assert_eq!(rt; written.as_slice(), plan.as_bytes(), "{sheet}");
     }
     Ok(())
 }
 
+/// Sheets of a million pins and more.
+const LARGE: &[&str] = &[
+    // There is room where the pins are placed first.
+    "stickysheet 1\nversion 1\nserver a off\nserver b cap 600000\nserver c cap 600000\n\
+        group 1000000 a b,c\nend\n",
+    // All have to go, and half of them.
+    "stickysheet 2\nversion 1\nserver a cap 0\ngroup 16777216 a a 1000\nend\n",
+    "stickysheet 2\nversion 1\nserver a cap 8388608\nserver b off\ngroup 16777216 a a 1000\nend\n",
+    // The room at the end of a way is less than the pins that have to go: a third goes to each server, and to none.
+    "stickysheet 1\nversion 1\nserver a cap 0\nserver b cap 1000000\nserver c cap 1000000\n\
+        group 3000000 a a,b,c\nend\n",
+    // A million pins at b make way for those of a, and as many at c for those of b.
+    "stickysheet 1\nversion 1\nserver a cap 0\nserver b cap 1000000\nserver c cap 1000000\n\
+        server d cap 1000000\ngroup 1000000 a b\ngroup 1000000 b b,c\ngroup 1000000 c c,d\nend\n",
+    // Of the pins at b that make way for those of a, half may go to c and half to d: two ways, each half as wide.
+    "stickysheet 1\nversion 1\nserver a cap 0\nserver b cap 1000000\nserver c cap 900000\n\
+        server d cap 900000\ngroup 1000000 a b\ngroup 500000 b b,c\ngroup 500000 b b,d\nend\n",
+];
+
 // A push moves as many pins as the narrowest arc of its way, the room at its end and the pins over the capacity allow.
 #[test]
 fn a_million_pins_are_moved_in_eight_pushes_at_most(rt: HostRuntime) -> Result<(), Fail> {
-    let sheets = [
-        // There is room where the pins are placed first.
-        "stickysheet 1\nversion 1\nserver a off\nserver b cap 600000\nserver c cap 600000\n\
-            group 1000000 a b,c\nend\n",
-        // All have to go, and half of them.
-        "stickysheet 2\nversion 1\nserver a cap 0\ngroup 16777216 a a 1000\nend\n",
-        "stickysheet 2\nversion 1\nserver a cap 8388608\nserver b off\ngroup 16777216 a a 1000\nend\n",
-        // The room at the end of a way is less than the pins that have to go: a third goes to each server, and to none.
-        "stickysheet 1\nversion 1\nserver a cap 0\nserver b cap 1000000\nserver c cap 1000000\n\
-            group 3000000 a a,b,c\nend\n",
-        // A million pins at b make way for those of a, and as many at c for those of b.
-        "stickysheet 1\nversion 1\nserver a cap 0\nserver b cap 1000000\nserver c cap 1000000\n\
-            server d cap 1000000\ngroup 1000000 a b\ngroup 1000000 b b,c\ngroup 1000000 c c,d\nend\n",
-        // Of the pins at b that make way for those of a, half may go to c and half to d: two ways, each half as wide.
-        "stickysheet 1\nversion 1\nserver a cap 0\nserver b cap 1000000\nserver c cap 900000\n\
-            server d cap 900000\ngroup 1000000 a b\ngroup 500000 b b,c\ngroup 500000 b b,d\nend\n",
-    ];
-    for sheet in sheets {
-        let pushes = planned(rt.alloc(), sheet)?.pushes();
+    for sheet in LARGE {
+        let pushes = planned(rt.alloc(), *sheet)?.pushes();
         assert!(rt; pushes <= 8, "{pushes} pushes of {sheet}");
     }
     Ok(())

@@ -159,16 +159,35 @@ fn are_backends(alloc: Global, config: &Config, wanted: &[BackendRow]) -> Result
     Ok(true)
 }
 
+fn expect_backends(
+    rt: &impl Abort,
+    alloc: Global,
+    config: &Config,
+    wanted: &[BackendRow],
+    what: &str,
+) -> Result<(), AllocError> {
+    assert!(rt; are_backends(alloc, config, wanted)?, "{what}");
+    Ok(())
+}
+
+#[test]
+fn each_backend_of_the_web_farm_opens_as_its_text_says(rt: HostRuntime) -> Result<(), Fail> {
+    let farm = web_farm(&rt, rt.alloc());
+    expect_backends(&rt, rt.alloc(), &farm, FARM, "the web farm")?;
+    Ok(())
+}
+
+/// Texts, and their backends.
+const SMALL: &[(&[u8], &[BackendRow], &str)] = &[
+    (TWO_SERVERS, TWO_SERVERS_ROW, "two servers"),
+    (BACKUPS, BACKUPS_ROW, "backups"),
+];
+
 #[test]
 fn each_backend_opens_as_its_text_says(rt: HostRuntime) -> Result<(), Fail> {
-    let farm = web_farm(&rt, rt.alloc());
-    assert!(rt; are_backends(rt.alloc(), &farm, FARM)?, "the web farm");
-    let two = config(&rt, rt.alloc(), TWO_SERVERS);
-    assert!(rt;
-        are_backends(rt.alloc(), &two, TWO_SERVERS_ROW)?,
-        "two servers"
-    );
-    let backups = config(&rt, rt.alloc(), BACKUPS);
-    assert!(rt; are_backends(rt.alloc(), &backups, BACKUPS_ROW)?, "backups");
+    for (text, wanted, what) in SMALL {
+        let config = config(&rt, rt.alloc(), *text);
+        expect_backends(&rt, rt.alloc(), &config, *wanted, *what)?;
+    }
     Ok(())
 }

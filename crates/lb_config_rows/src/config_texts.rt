@@ -1,18 +1,12 @@
+use crate::backends::config;
 use lb_acl::{Head, Version, designated, pin_cost};
-use lb_config::{BackendConfig, Config, FindFault, read_config};
+use lb_config::{BackendConfig, Config, FindFault, Frontend};
 use lb_config_lines::SocketAddress;
 use lb_types::{Balance, Name, ServerId};
 use std::alloc::Global;
 use std::net::Ipv4Addr;
 use std::process::Abort;
 use std::test::Fail;
-
-fn config(rt: &impl Abort, alloc: Global, text: &[u8]) -> Config {
-    match read_config(alloc, text) {
-        Ok(config) => config,
-        Err(_) => panic!(rt; "a fault in {text:?}"),
-    }
-}
 
 /// A request of this method, without fields.
 fn head(method: &str) -> Head<'_> {
@@ -105,23 +99,36 @@ fn defaults_reach_up_to_the_next_ones(rt: HostRuntime) -> Result<(), Fail> {
     let text =
         b"backend a\ndefaults\nbalance first\ntimeout client 5s\ntimeout server 7\noption forwardfor\ndefault-server weight 9\nbackend b\nserver s 1.2.3.4:1\nbackend c\nbalance leastconn\nlisten l\nbind :80\ndefaults\ntimeout client 6s\nfrontend f\nbackend d\nserver s 1.2.3.4:1\n";
     let config = config(&rt, rt.alloc(), text);
-    let count = config.backends().len();
-    for (backend, wanted) in config.backends().iter().zip(DEFAULTS.iter()) {
-        let weight = match backend.servers().first() {
-            Some(server) => server.settings().weight,
-            None => 0,
-        };
+    backends_have_the_defaults(&rt, config.backends());
+    frontends_have_the_defaults(&rt, config.frontends());
+    Ok(())
+}
+
+fn backends_have_the_defaults(rt: &impl Abort, backends: &[BackendConfig]) {
+    let count = backends.len();
+    for (backend, wanted) in backends.iter().zip(DEFAULTS.iter()) {
         let found = (
             backend.balance(),
             backend.forward_for(),
             backend.server_limit(),
-            weight,
+            first_weight(backend),
         );
         let name = backend.name();
         assert_eq!(rt; (count, found), (5, *wanted), "of {name:?}");
     }
-    let (Some(l), Some(f)) = (config.frontends().first(), config.frontends().last()) else {
-        panic!(&rt; "no frontends");
+}
+
+/// The weight of the first server, or 0.
+fn first_weight(backend: &BackendConfig) -> u16 {
+    match backend.servers().first() {
+        Some(server) => server.settings().weight,
+        None => 0,
+    }
+}
+
+fn frontends_have_the_defaults(rt: &impl Abort, frontends: &[Frontend]) {
+    let (Some(l), Some(f)) = (frontends.first(), frontends.last()) else {
+        panic!(rt; "no frontends");
     };
     let found = (
         l.client_limit(),
@@ -130,7 +137,6 @@ fn defaults_reach_up_to_the_next_ones(rt: HostRuntime) -> Result<(), Fail> {
         f.forward_for(),
     );
     assert_eq!(rt; found, (Some(5000), true, Some(6000), false));
-    Ok(())
 }
 
 /// Of each frontend the backend of a GET and of a PUT.
@@ -208,22 +214,23 @@ const LIMITS: &[(&[u8], Option<u32>, Option<u32>, Option<u32>)] = &[
     ),
 ];
 
+/// The limits of a dial, of the queue and of a check of the first server of the first backend, if there is one.
+fn limits(config: &Config) -> Option<(Option<u32>, Option<u32>, Option<u32>)> {
+    let backend = config.backends().first()?;
+    let server = backend.servers().first()?;
+    Some((
+        backend.connect_limit(),
+        backend.queue_limit(),
+        backend.probe_limit(server),
+    ))
+}
+
 #[test]
 fn limits_of_times(rt: HostRuntime) -> Result<(), Fail> {
     for (text, connect, queue, check) in LIMITS {
         let config = config(&rt, rt.alloc(), *text);
-        let Some(backend) = config.backends().first() else {
-            panic!(&rt; "no backend");
-        };
-        let Some(server) = backend.servers().first() else {
-            panic!(&rt; "no server");
-        };
-        let found = (
-            backend.connect_limit(),
-            backend.queue_limit(),
-            backend.probe_limit(server),
-        );
-        assert_eq!(rt; found, (*connect, *queue, *check), "{text:?}");
+        let wanted = Some((*connect, *queue, *check));
+        assert_eq!(rt; limits(&config), wanted, "{text:?}");
     }
     Ok(())
 }

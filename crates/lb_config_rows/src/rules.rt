@@ -37,7 +37,7 @@ const MANY: &[u8] =
 const BARE: &[u8] = b"frontend f\nuse_backend a if { method GET }\nuse_backend b";
 
 /// A text, how many addresses it binds, a request, and its backend.
-const CHOICES: [(&[u8], usize, &str, &str, Option<usize>); 8] = [
+const CHOICES: &[(&[u8], usize, &str, &str, Option<usize>)] = &[
     (MANY, 2, "POST", "/up", Some(1)),
     (MANY, 2, "GET", "/up", Some(0)),
     (MANY, 2, "HEAD", "/", Some(0)),
@@ -51,11 +51,11 @@ const CHOICES: [(&[u8], usize, &str, &str, Option<usize>); 8] = [
 #[test]
 fn the_first_rule_that_applies_names_the_backend(rt: HostRuntime) -> Result<(), Fail> {
     for (text, binds, method, target, wanted) in CHOICES {
-        let (front, _) = rules_of(&rt, rt.alloc(), text)?;
-        let backend = chosen(front.choices(), &head(method, target));
+        let (front, _) = rules_of(&rt, rt.alloc(), *text)?;
+        let backend = chosen(front.choices(), &head(*method, *target));
         assert_eq!(rt;
             (front.binds().len(), backend),
-            (binds, wanted),
+            (*binds, *wanted),
             "{method} {target}"
         );
     }
@@ -79,7 +79,7 @@ fn is_table(rules: &BackRules, size: u32, key: Option<usize>) -> bool {
 }
 
 /// A text, the size of its table, and of how many bytes its keys are, where it has one.
-const TABLES: [(&[u8], u32, Option<usize>); 2] = [
+const TABLES: &[(&[u8], u32, Option<usize>)] = &[
     (
         b"backend web\n  stick on hdr(x-id)\n  stick-table type string size 10",
         10,
@@ -89,26 +89,45 @@ const TABLES: [(&[u8], u32, Option<usize>); 2] = [
 ];
 
 #[test]
-fn servers_costs_and_keys_by_their_rules(rt: HostRuntime) -> Result<(), Fail> {
-    let text =
-        b"backend a\nuse-server y if up\nuse-server x if up { method GET }\npin-cost 7 unless up\npin-cost 20 if { method GET }\nacl up path_beg /up";
-    let (_, back) = rules_of(&rt, rt.alloc(), text)?;
-    let both = [ServerId::new(1), ServerId::new(0)];
-    // A request, the servers that it wants, and the cost of its pin.
-    let rows: [(&str, &str, &[ServerId], u16); 3] = [
-        ("GET", "/up", &both, 20),
-        ("GET", "/", &[], 7),
-        ("PUT", "/up", &[ServerId::new(1)], 1),
-    ];
-    for (method, target, servers, cost) in rows {
-        let head = head(method, target);
-        let wanted = designated(rt.alloc(), back.use_servers(), &head)?;
-        let is_so = wanted.as_slice() == servers && pin_cost(back.pin_costs(), &head) == cost;
-        assert!(rt; is_so, "{method} {target}");
-    }
+fn keys_by_their_rules(rt: HostRuntime) -> Result<(), Fail> {
     for (text, size, key) in TABLES {
-        let (_, back) = rules_of(&rt, rt.alloc(), text)?;
-        assert!(rt; is_table(&back, size, key), "{text:?}");
+        let (_, back) = rules_of(&rt, rt.alloc(), *text)?;
+        assert!(rt; is_table(&back, *size, *key), "{text:?}");
     }
     Ok(())
+}
+
+const RULED: &[u8] =
+    b"backend a\nuse-server y if up\nuse-server x if up { method GET }\npin-cost 7 unless up\npin-cost 20 if { method GET }\nacl up path_beg /up";
+
+/// A request, the servers that it wants by those rules, and the cost of its pin.
+const REQUESTS: &[(&str, &str, &[u8], u16)] = &[
+    ("GET", "/up", &[1, 0], 20),
+    ("GET", "/", &[], 7),
+    ("PUT", "/up", &[1], 1),
+];
+
+/// Whether the servers are those of these numbers, in their order.
+fn are_servers(found: &[ServerId], wanted: &[u8]) -> bool {
+    found.len() == wanted.len()
+        && found
+            .iter()
+            .zip(wanted)
+            .all(|(server, number)| server.index() == usize::from(*number))
+}
+
+fn expect_requests(rt: &impl Abort, alloc: Global, back: &BackRules) -> Result<(), Fail> {
+    for (method, target, servers, cost) in REQUESTS {
+        let head = head(*method, *target);
+        let wanted = designated(alloc, back.use_servers(), &head)?;
+        let is_so = are_servers(&wanted, *servers) && pin_cost(back.pin_costs(), &head) == *cost;
+        assert!(rt; is_so, "{method} {target}");
+    }
+    Ok(())
+}
+
+#[test]
+fn servers_and_costs_by_their_rules(rt: HostRuntime) -> Result<(), Fail> {
+    let (_, back) = rules_of(&rt, rt.alloc(), RULED)?;
+    expect_requests(&rt, rt.alloc(), &back)
 }

@@ -190,24 +190,37 @@ fn is_at(values: &GlobalValues, wanted: Option<&[u8]>) -> bool {
 }
 
 #[test]
-fn the_last_value_counts(rt: HostRuntime) -> Result<(), Fail> {
+fn the_last_value_of_a_proxy_counts(rt: HostRuntime) -> Result<(), Fail> {
     let text =
         b"defaults\nbalance first\ntimeout server 3s\ntimeout client 1m\noption allbackups\nlisten web\nbalance roundrobin\nbalance leastconn\ntimeout server 5\ntimeout queue 0\ndefault_backend web\noption evacuate";
     let sections = sections_of(&rt, rt.alloc(), text);
-    let defaults = ProxyValues::none().behind(settings_at(&rt, &sections, 0));
-    let values = defaults.behind(settings_at(&rt, &sections, 1));
+    expect_proxy(&rt, &sections);
+    Ok(())
+}
+
+fn expect_proxy(rt: &impl Abort, sections: &Sections) {
+    let defaults = ProxyValues::none().behind(settings_at(rt, sections, 0));
+    let values = defaults.behind(settings_at(rt, sections, 1));
     let is_so = (defaults.picking(), values.picking())
         == (Balance::First, Balance::LeastConnections)
         && times(values.timeouts) == [Some(60000), None, Some(5), Some(0), None]
         && (flags(&values), defaults.evacuate) == ((true, true, false), false)
         && values.default_backend.is_some();
     assert!(rt; is_so);
+}
+
+#[test]
+fn the_last_value_of_the_program_counts(rt: HostRuntime) -> Result<(), Fail> {
     let text =
         b"global\ntune.relays 3\ntune.journal 2\nstats socket 127.0.0.1:99\ntune.relays 4\nstats socket /run/lb";
     let sections = sections_of(&rt, rt.alloc(), text);
+    expect_program(&rt, &sections);
+    Ok(())
+}
+
+fn expect_program(rt: &impl Abort, sections: &Sections) {
     let none = GlobalValues::none();
     assert!(rt; numbers(&none) == (8, 8, 100000) && is_at(&none, None));
-    let values = none.behind(settings_at(&rt, &sections, 0));
+    let values = none.behind(settings_at(rt, sections, 0));
     assert!(rt; numbers(&values) == (4, 8, 2) && is_at(&values, Some(b"/run/lb")));
-    Ok(())
 }

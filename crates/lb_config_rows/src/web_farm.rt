@@ -1,6 +1,6 @@
 use check_workers_rule::CheckRequest;
-use lb_acl::{Field, Head, KeyLen, TableType, Version, designated, pin_cost, pin_key};
-use lb_config::{BackendConfig, Config, Frontend, read_config};
+use lb_acl::{Field, Head, TableType, Version, designated, pin_cost, pin_key};
+use lb_config::{BackendConfig, Config, read_config};
 use lb_config_lines::SocketAddress;
 use lb_config_values::ServerConfig;
 use lb_types::{Balance, ServerId};
@@ -147,18 +147,20 @@ const REQUESTS: &[(&str, &str, [u8; 4], usize)] = &[
 #[test]
 fn the_process_and_the_backends_of_requests(rt: HostRuntime) -> Result<(), Fail> {
     let config = web_farm(&rt, rt.alloc());
-    assert!(rt; has_socket(&config));
+    the_process(&rt, &config);
+    requests_go_to_their_backends(&rt, &config);
+    Ok(())
+}
+
+fn the_process(rt: &impl Abort, config: &Config) {
     let found = (config.relays(), config.tries(), config.warnings().len());
     let counts = (config.frontends().len(), config.backends().len());
     assert_eq!(rt; (found, counts), ((16, 8, 0), (2, 5)));
-    for backend in config.backends() {
-        assert!(rt; has_the_defaults(backend));
-    }
-    let (Some(shop), Some(tools)) = (config.frontends().first(), config.frontends().last()) else {
-        panic!(&rt; "no frontends");
-    };
-    requests_go_to_their_backends(&rt, shop, tools);
-    Ok(())
+    let have_defaults = config
+        .backends()
+        .iter()
+        .all(|backend| has_the_defaults(backend));
+    assert!(rt; has_socket(config) && have_defaults);
 }
 
 fn has_socket(config: &Config) -> bool {
@@ -175,7 +177,10 @@ fn has_the_defaults(backend: &BackendConfig) -> bool {
         && (backend.forward_for(), backend.all_backups()) == (true, false)
 }
 
-fn requests_go_to_their_backends(rt: &impl Abort, shop: &Frontend, tools: &Frontend) {
+fn requests_go_to_their_backends(rt: &impl Abort, config: &Config) {
+    let (Some(shop), Some(tools)) = (config.frontends().first(), config.frontends().last()) else {
+        panic!(rt; "no frontends");
+    };
     let found = (shop.rules().binds().len(), shop.client_limit());
     assert_eq!(rt; found, (2, Some(30000)));
     for (method, target, source, wanted) in REQUESTS {
@@ -197,12 +202,16 @@ const SERVERS: &[(u32, u16, bool)] = &[
 #[test]
 fn servers_of_the_pages_and_of_the_others(rt: HostRuntime) -> Result<(), Fail> {
     let config = web_farm(&rt, rt.alloc());
-    the_pages(&rt, backend(&rt, &config, PAGES));
-    the_api(&rt, backend(&rt, &config, API));
-    the_pictures(&rt, backend(&rt, &config, PICTURES));
-    let closed = backend(&rt, &config, CLOSED).servers().len();
-    assert_eq!(rt; closed, 0);
+    the_servers(&rt, &config);
     Ok(())
+}
+
+fn the_servers(rt: &impl Abort, config: &Config) {
+    the_pages(rt, backend(rt, config, PAGES));
+    the_api(rt, backend(rt, config, API));
+    the_pictures(rt, backend(rt, config, PICTURES));
+    let closed = backend(rt, config, CLOSED).servers().len();
+    assert_eq!(rt; closed, 0);
 }
 
 fn the_pages(rt: &impl Abort, pages: &BackendConfig) {
@@ -263,41 +272,49 @@ fn is_picture(server: &ServerConfig) -> bool {
         && server.check_rule().request().is_none()
 }
 
+/// Backends, and of their tables the longest text, if keys are texts, the size, `expire` and `nopurge`.
+const TABLES: &[(usize, Option<usize>, u32, u32, bool)] = &[
+    (PAGES, Some(64), 1048576, 1800000, false),
+    (API, Some(40), 102400, 600000, true),
+    (TOOLS, None, 4096, 28800000, false),
+];
+
 #[test]
 fn tables_keys_and_rules(rt: HostRuntime) -> Result<(), Fail> {
     let config = web_farm(&rt, rt.alloc());
-    let tables = [
-        (
-            PAGES,
-            TableType::Text(KeyLen::new(64)),
-            1048576,
-            1800000,
-            false,
-        ),
-        (API, TableType::Text(KeyLen::new(40)), 102400, 600000, true),
-        (TOOLS, TableType::Ip, 4096, 28800000, false),
-    ];
-    for (place, kind, size, expire, is_nopurge) in tables {
-        let Some(table) = backend(&rt, &config, place).rules().table() else {
-            panic!(&rt; "no table");
-        };
-        let settings = table.settings();
-        let found = (
-            table.kind(),
-            settings.size,
-            settings.expire,
-            settings.no_purge,
-        );
-        assert_eq!(rt; found, (kind, size, Some(expire), is_nopurge));
-    }
-    let pictures = backend(&rt, &config, PICTURES).rules();
-    assert!(rt; pictures.table().is_none());
+    tables(&rt, &config);
     a_visit(
         &rt,
         rt.alloc(),
         backend(&rt, &config, PAGES),
         backend(&rt, &config, API),
     )
+}
+
+fn tables(rt: &impl Abort, config: &Config) {
+    for (place, longest, size, expire, is_nopurge) in TABLES {
+        let Some(table) = backend(rt, config, *place).rules().table() else {
+            panic!(rt; "no table");
+        };
+        let settings = table.settings();
+        let found = (
+            longest_text(table.kind()),
+            settings.size,
+            settings.expire,
+            settings.no_purge,
+        );
+        assert_eq!(rt; found, (*longest, *size, Some(*expire), *is_nopurge));
+    }
+    let pictures = backend(rt, config, PICTURES).rules();
+    assert!(rt; pictures.table().is_none());
+}
+
+/// The most bytes of a key that is a text.
+fn longest_text(kind: TableType) -> Option<usize> {
+    match kind {
+        TableType::Text(len) => Some(len.get()),
+        TableType::Ip => None,
+    }
 }
 
 /// A partner's visit, who looks at the next version of the pages, beside one of the office.

@@ -36,7 +36,7 @@ fn read(kind: Kind, word: &str) -> Option<u64> {
 }
 
 /// Words and the number that each is read as.
-const WORDS: [(Kind, &str, Option<u64>); 50] = [
+const WORDS: &[(Kind, &str, Option<u64>)] = &[
     (Kind::Time, "0", Some(0)),
     (Kind::Time, "0us", Some(0)),
     (Kind::Time, "1us", Some(1)),
@@ -90,7 +90,7 @@ const WORDS: [(Kind, &str, Option<u64>); 50] = [
 ];
 
 /// Addresses, and the bytes of those that are one.
-const ADDRESSES: [(&str, Option<[u8; 4]>); 9] = [
+const ADDRESSES: &[(&str, Option<[u8; 4]>)] = &[
     ("10.0.0.7", Some([10, 0, 0, 7])),
     ("255.255.255.255", Some([255, 255, 255, 255])),
     ("10.0.0", None),
@@ -105,7 +105,7 @@ const ADDRESSES: [(&str, Option<[u8; 4]>); 9] = [
 #[test]
 fn times_sizes_numbers_names_and_addresses(rt: HostRuntime) {
     for (kind, word, wanted) in WORDS {
-        assert_eq!(rt; read(kind, word), wanted, "{kind:?} {word}");
+        assert_eq!(rt; read(*kind, *word), *wanted, "{kind:?} {word}");
     }
     for (text, bytes) in ADDRESSES {
         let wanted = bytes.map(|[a, b, c, d]| Ipv4Addr::new(a, b, c, d));

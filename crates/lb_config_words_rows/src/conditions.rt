@@ -44,7 +44,7 @@ fn shape(alloc: Global, cond: &UnresolvedCond) -> Result<String, AllocError> {
 }
 
 /// Rules, and the shape and polarity of their conditions.
-const CONDITIONS: [(&str, &str, Polarity); 15] = [
+const CONDITIONS: &[(&str, &str, Polarity)] = &[
     ("s if a", "a", Polarity::If),
     ("s if a b or c", "a&b|c", Polarity::If),
     ("s if a or b c", "a|b&c", Polarity::If),
@@ -65,11 +65,11 @@ const CONDITIONS: [(&str, &str, Polarity); 15] = [
 #[test]
 fn or_separates_weaker_than_and(rt: HostRuntime) -> Result<(), Fail> {
     for (line, wanted, polarity) in CONDITIONS {
-        let read = cond(rt.alloc(), line)?;
+        let read = cond(rt.alloc(), *line)?;
         let shape = shape(rt.alloc(), &read)?;
         assert_eq!(rt;
             (shape.as_str(), read.polarity()),
-            (wanted, polarity),
+            (*wanted, *polarity),
             "{line}"
         );
     }
@@ -94,13 +94,13 @@ fn pattern<'a>(sample: &'a KeySample) -> (&'static str, &'a [u8]) {
 }
 
 /// ACLs with their name and kind.
-const ACLS: [(&str, &[u8], &str); 2] = [
+const ACLS: &[(&str, &[u8], &str)] = &[
     ("local src 10.0.0.0/8 127.0.0.1", b"local", "source"),
     ("image path_end -i .JPG .png", b"image", "text"),
 ];
 
 /// Patterns with what they take and its name.
-const PATTERNS: [(&str, (&str, &[u8])); 5] = [
+const PATTERNS: &[(&str, (&str, &[u8]))] = &[
     ("src", ("source", b"")),
     ("hdr(x-id)", ("field", b"x-id")),
     ("req.hdr(Host)", ("field", b"Host")),
@@ -111,17 +111,17 @@ const PATTERNS: [(&str, (&str, &[u8])); 5] = [
 #[test]
 fn acls_have_a_name_and_a_kind_and_patterns_a_name(rt: HostRuntime) -> Result<(), Fail> {
     for (text, name, kind) in ACLS {
-        let words = words_of(rt.alloc(), text)?;
+        let words = words_of(rt.alloc(), *text)?;
         let read = read_declaration(&mut Words::new(rt.alloc(), &words, None))?;
         assert!(rt;
-            read.name.as_bytes() == name && acl_kind(&read.line) == kind,
+            read.name.as_bytes() == *name && acl_kind(&read.line) == *kind,
             "{text}"
         );
     }
     let none = Words::new(rt.alloc(), &[], None);
     for (word, wanted) in PATTERNS {
         let sample = read_pattern(&none, word.as_bytes())?;
-        assert_eq!(rt; pattern(&sample), wanted, "{word}");
+        assert_eq!(rt; pattern(&sample), *wanted, "{word}");
     }
     Ok(())
 }

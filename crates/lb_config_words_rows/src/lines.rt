@@ -56,7 +56,7 @@ fn is_socket(setting: &Setting, port: Option<u16>, has_more: bool) -> bool {
 }
 
 /// Lines with settings; `is_wanted` knows them by their places.
-const SETTINGS: [(Section, &str); 10] = [
+const SETTINGS: &[(Section, &str)] = &[
     (Section::Global, "tune.relays 007"),
     (Section::Global, "tune.tries 1000"),
     (Section::Global, "tune.journal 2"),
@@ -70,7 +70,7 @@ const SETTINGS: [(Section, &str); 10] = [
 ];
 
 /// Lines with the method, the URI and the version of a check.
-const CHECKS: [(&str, &str, &str, Version); 4] = [
+const CHECKS: &[(&str, &str, &str, Version)] = &[
     ("option httpchk", "OPTIONS", "/", Version::Http10),
     ("option httpchk /up", "OPTIONS", "/up", Version::Http10),
     ("option httpchk HEAD /up", "HEAD", "/up", Version::Http10),
@@ -83,7 +83,7 @@ const CHECKS: [(&str, &str, &str, Version); 4] = [
 ];
 
 /// Lines with the port of a command socket, where it has one, and whether words stand behind its address.
-const SOCKETS: [(&str, Option<u16>, bool); 4] = [
+const SOCKETS: &[(&str, Option<u16>, bool)] = &[
     ("stats socket /run/lb.sock", None, false),
     ("stats socket /run/lb.sock mode 600", None, true),
     (
@@ -101,12 +101,12 @@ fn settings_are_those_of_their_lines(rt: HostRuntime) -> Result<(), Fail> {
         assert!(rt; is_wanted(row, &setting), "{line}");
     }
     for (line, method, uri, version) in CHECKS {
-        let check = setting(rt.alloc(), Section::Backend, line)?;
-        assert!(rt; is_check(&check, method, uri, version), "{line}");
+        let check = setting(rt.alloc(), Section::Backend, *line)?;
+        assert!(rt; is_check(&check, *method, *uri, *version), "{line}");
     }
     for (line, port, has_more) in SOCKETS {
-        let socket = setting(rt.alloc(), Section::Global, line)?;
-        assert!(rt; is_socket(&socket, port, has_more), "{line}");
+        let socket = setting(rt.alloc(), Section::Global, *line)?;
+        assert!(rt; is_socket(&socket, *port, *has_more), "{line}");
     }
     Ok(())
 }

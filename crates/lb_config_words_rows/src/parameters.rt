@@ -23,13 +23,13 @@ const LONG: &str =
 
 /// Whether it is a default, the words, and what they say: whether a server is checked, a backup and disabled, its `inter`, `rise` and
 /// `fall`, and its weight, `maxconn` and `maxpins`. What isn't said is none, and the last weight counts.
-const OPTIONS: [(
+const OPTIONS: &[(
     bool,
     &str,
     (bool, bool, bool),
     (Option<u32>, Option<u16>, Option<u16>),
     (Option<u16>, Option<u32>, Option<u32>),
-); 2] = [
+)] = &[
     (
         false,
         LONG,
@@ -49,10 +49,10 @@ const OPTIONS: [(
 #[test]
 fn options_of_servers(rt: HostRuntime) -> Result<(), Fail> {
     for (is_default, text, flags, checks, limits) in OPTIONS {
-        let read = options(rt.alloc(), is_default, text)?;
-        let is_so = (read.is_checked, read.is_backup, read.is_disabled) == flags
-            && (read.interval, read.rise, read.fall) == checks
-            && (read.weight, read.max_connections, read.max_pins) == limits;
+        let read = options(rt.alloc(), *is_default, *text)?;
+        let is_so = (read.is_checked, read.is_backup, read.is_disabled) == *flags
+            && (read.interval, read.rise, read.fall) == *checks
+            && (read.weight, read.max_connections, read.max_pins) == *limits;
         assert!(rt; is_so, "{text}");
     }
     let words = words_of(rt.alloc(), LONG)?;
@@ -73,7 +73,7 @@ fn key_bytes(kind: TableType) -> usize {
 }
 
 /// Parameters of tables, and what they say: the bytes of a key, the size, the expiry and whether pins stay.
-const TABLES: [(&str, (usize, u32, Option<u32>, bool)); 3] = [
+const TABLES: &[(&str, (usize, u32, Option<u32>, bool))] = &[
     (
         "nopurge size 1k expire 10s type string",
         (32, 1024, Some(10000), true),
@@ -90,7 +90,7 @@ fn parameters_of_tables_stand_in_any_order_and_the_last_counts(
     rt: HostRuntime,
 ) -> Result<(), Fail> {
     for (text, wanted) in TABLES {
-        let words = words_of(rt.alloc(), text)?;
+        let words = words_of(rt.alloc(), *text)?;
         let read = read_stick_table(&mut Words::new(rt.alloc(), &words, None))?;
         let settings = read.settings();
         let found = (
@@ -99,7 +99,7 @@ fn parameters_of_tables_stand_in_any_order_and_the_last_counts(
             settings.expire,
             settings.no_purge,
         );
-        assert_eq!(rt; found, wanted, "{text}");
+        assert_eq!(rt; found, *wanted, "{text}");
     }
     Ok(())
 }

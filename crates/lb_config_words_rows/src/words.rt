@@ -39,7 +39,7 @@ type Spelled = (
 );
 
 /// Lines that are spelled well.
-const WHOLE: [Spelled; 26] = [
+const WHOLE: &[Spelled] = &[
     (b"global", &["global"], None),
     (
         b"  stats \t socket\t/run/lb  ",
@@ -85,7 +85,7 @@ const WHOLE: [Spelled; 26] = [
 ];
 
 /// Lines whose spelling breaks.
-const BROKEN: [Spelled; 18] = [
+const BROKEN: &[Spelled] = &[
     (b"foo \"x", &["foo"], UNCLOSED),
     (b"foo 'x", &["foo"], UNCLOSED),
     (b"foo ab'x", &["foo"], UNCLOSED),
@@ -108,7 +108,7 @@ const BROKEN: [Spelled; 18] = [
 ];
 
 /// Texts with the numbers of their lines.
-const NUMBERED: [(&[u8], &[u32]); 8] = [
+const NUMBERED: &[(&[u8], &[u32])] = &[
     (b"", &[]),
     (b"\n\n", &[]),
     (b" \t\r\n# x\n  # y", &[]),
@@ -144,7 +144,7 @@ fn expect_numbers(rt: &impl Abort, alloc: Global, rows: &[(&[u8], &[u32])]) -> R
 
 #[test]
 fn a_line_has_words_an_ending_and_a_number(rt: HostRuntime) -> Result<(), Fail> {
-    expect_lines(&rt, rt.alloc(), &WHOLE)?;
-    expect_lines(&rt, rt.alloc(), &BROKEN)?;
-    expect_numbers(&rt, rt.alloc(), &NUMBERED)
+    expect_lines(&rt, rt.alloc(), WHOLE)?;
+    expect_lines(&rt, rt.alloc(), BROKEN)?;
+    expect_numbers(&rt, rt.alloc(), NUMBERED)
 }

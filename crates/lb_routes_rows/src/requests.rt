@@ -1,9 +1,12 @@
 use crate::farm::{API, CLOSED, PAGES, PLAIN, SHOP, TOOLS, farm, fields, head};
 use http_relay_serve::Routing;
+use lb_config::Config;
 use lb_desk_model::Request;
 use lb_routes::ConfigRoutes;
 use lb_types::{Moment, ServerId};
 use pin_set::PinKey;
+use std::alloc::Global;
+use std::process::Abort;
 use std::test::Fail;
 
 /// The key that a request is to have.
@@ -140,40 +143,50 @@ fn is_request(request: &Request, row: &Row) -> bool {
         && (request.cost, request.moment.as_millis()) == (row.cost, 7)
 }
 
+/// The head's backend is the row's, and is asked what the row says.
+fn expect_request(rt: &impl Abort, alloc: Global, config: &Config, row: &Row) -> Result<(), Fail> {
+    let Some(routes) = ConfigRoutes::at(config, row.frontend) else {
+        panic!(rt; "no frontend {}", row.frontend);
+    };
+    let fields = fields(alloc, row.lines)?;
+    let head = head(row.method, row.target, &fields, row.source);
+    let Some(backend) = routes.backend(&head) else {
+        panic!(rt; "no backend for {}", row.target);
+    };
+    let request = routes.request(alloc, backend, &head, Moment::from_millis(7))?;
+    assert!(rt;
+        backend == row.backend && is_request(&request, row),
+        "{} {}: {backend}, {request:?}",
+        row.method,
+        row.target
+    );
+    Ok(())
+}
+
 // The backend of each head, and what it is asked: the key cut to the table's length, the servers of the rules in their order, and the
 // cost of the first rule that applies.
 #[test]
 fn backends_are_asked_what_the_rules_make_of_heads(rt: HostRuntime) -> Result<(), Fail> {
     let config = farm(&rt, rt.alloc());
     for row in ROWS {
-        let Some(routes) = ConfigRoutes::at(&config, row.frontend) else {
-            panic!(&rt; "no frontend {}", row.frontend);
-        };
-        let fields = fields(rt.alloc(), row.lines)?;
-        let head = head(row.method, row.target, &fields, row.source);
-        let Some(backend) = routes.backend(&head) else {
-            panic!(&rt; "no backend for {}", row.target);
-        };
-        let request = routes.request(rt.alloc(), backend, &head, Moment::from_millis(7))?;
-        assert!(rt;
-            backend == row.backend && is_request(&request, row),
-            "{} {}: {backend}, {request:?}",
-            row.method,
-            row.target
-        );
+        expect_request(&rt, rt.alloc(), &config, row)?;
     }
     Ok(())
+}
+
+/// Whether a frontend of tools has no backend for `/`, and no frontend is the third one.
+fn goes_nowhere(config: &Config) -> bool {
+    let Some(tools) = ConfigRoutes::at(config, TOOLS) else {
+        return false;
+    };
+    let nowhere = tools.backend(&head("GET", "/", &[], HOME));
+    nowhere.is_none() && ConfigRoutes::at(config, 2).is_none()
 }
 
 // Where no rule applies and there is no default, no backend takes the head. What is no frontend has no routes.
 #[test]
 fn some_heads_go_nowhere(rt: HostRuntime) -> Result<(), Fail> {
     let config = farm(&rt, rt.alloc());
-    let Some(tools) = ConfigRoutes::at(&config, TOOLS) else {
-        panic!(&rt; "no frontend");
-    };
-    let nowhere = tools.backend(&head("GET", "/", &[], HOME));
-    let none = ConfigRoutes::at(&config, 2);
-    assert!(rt; nowhere.is_none() && none.is_none());
+    assert!(rt; goes_nowhere(&config));
     Ok(())
 }

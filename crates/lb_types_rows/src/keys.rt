@@ -23,48 +23,61 @@ fn key(
     }
 }
 
+/// A table of addresses, or of texts of at most so many bytes.
+fn table_of(len: Option<u16>) -> TableType {
+    match len {
+        None => TableType::Ip,
+        Some(len) => TableType::Text(KeyLen::new(len.clamp(1, 1024))),
+    }
+}
+
+/// The lines of a head, the longest text of the table where it has texts, and the key by the field `x`.
+const OF_X: &[(&[(&str, &str)], Option<u16>, &str)] = &[
+    (&[("X", "a, b"), ("X", "c , d")], Some(32), "d"),
+    (&[("X", "a,")], Some(32), "-"),
+    (&[("Y", "a")], Some(32), "-"),
+    (&[("X", "a"), ("X", "")], Some(32), "-"),
+    (&[("X", "abc")], Some(2), "ab"),
+    (&[("X", "01.2.3.4")], None, "-"),
+    (&[("X", "1.2.3.256")], None, "-"),
+    (&[("X", "1.2.3.4")], None, "1.2.3.4"),
+];
+
+/// The lines of a head, and the key by the cookie `s` in a table of texts of at most 32 bytes.
+const OF_S: &[(&[(&str, &str)], &str)] = &[
+    (&[("Cookie", "s=1; t=2"), ("Cookie", "s=3")], "3"),
+    (&[("cookie", "s=1; t=2")], "1"),
+    (&[("Cookie", "s=1;s=2; s")], "2"),
+    (&[("Cookie", "S=1")], "-"),
+    (&[("Cookie", "s=1; s=")], "-"),
+    (&[("Cookie", "s= a=b ;t=2")], " a=b"),
+    (&[("Cookie", "xs=1")], "-"),
+    (&[("Set-Cookie", "s=1")], "-"),
+];
+
+/// The longest text of the table where it has texts, and the key by the client's address.
+const OF_SOURCE: &[(Option<u16>, &str)] = &[
+    (None, "127.0.0.1"),
+    (Some(1024), "127.0.0.1"),
+    (Some(5), "127.0"),
+];
+
 // Of a field the last value of the last one of the name, of cookies the last one of the name, and of a source the client's address.
 #[test]
 fn keys_of_fields_cookies_and_sources(rt: HostRuntime) -> Result<(), Fail> {
-    let string = TableType::Text(KeyLen::new(32));
-    let of_x: [(&[(&str, &str)], TableType, &str); 8] = [
-        (&[("X", "a, b"), ("X", "c , d")], string, "d"),
-        (&[("X", "a,")], string, "-"),
-        (&[("Y", "a")], string, "-"),
-        (&[("X", "a"), ("X", "")], string, "-"),
-        (&[("X", "abc")], TableType::Text(KeyLen::new(2)), "ab"),
-        (&[("X", "01.2.3.4")], TableType::Ip, "-"),
-        (&[("X", "1.2.3.256")], TableType::Ip, "-"),
-        (&[("X", "1.2.3.4")], TableType::Ip, "1.2.3.4"),
-    ];
-    for (lines, table, wanted) in of_x {
+    for (lines, len, wanted) in OF_X {
         let sample = KeySample::Field(text(rt.alloc(), "x")?);
-        let found = key(rt.alloc(), sample, table, lines)?;
-        assert_eq!(rt; found.as_str(), wanted, "{wanted}");
+        let found = key(rt.alloc(), sample, table_of(*len), *lines)?;
+        assert_eq!(rt; found.as_str(), *wanted, "{wanted}");
     }
-    let of_s: [(&[(&str, &str)], &str); 8] = [
-        (&[("Cookie", "s=1; t=2"), ("Cookie", "s=3")], "3"),
-        (&[("cookie", "s=1; t=2")], "1"),
-        (&[("Cookie", "s=1;s=2; s")], "2"),
-        (&[("Cookie", "S=1")], "-"),
-        (&[("Cookie", "s=1; s=")], "-"),
-        (&[("Cookie", "s= a=b ;t=2")], " a=b"),
-        (&[("Cookie", "xs=1")], "-"),
-        (&[("Set-Cookie", "s=1")], "-"),
-    ];
-    for (lines, wanted) in of_s {
+    for (lines, wanted) in OF_S {
         let sample = KeySample::Cookie(text(rt.alloc(), "s")?);
-        let found = key(rt.alloc(), sample, string, lines)?;
-        assert_eq!(rt; found.as_str(), wanted, "{wanted}");
+        let found = key(rt.alloc(), sample, table_of(Some(32)), *lines)?;
+        assert_eq!(rt; found.as_str(), *wanted, "{wanted}");
     }
-    let of_source = [
-        (TableType::Ip, "127.0.0.1"),
-        (TableType::Text(KeyLen::new(1024)), "127.0.0.1"),
-        (TableType::Text(KeyLen::new(5)), "127.0"),
-    ];
-    for (table, wanted) in of_source {
-        let found = key(rt.alloc(), KeySample::Source, table, &[])?;
-        assert_eq!(rt; found.as_str(), wanted, "{wanted}");
+    for (len, wanted) in OF_SOURCE {
+        let found = key(rt.alloc(), KeySample::Source, table_of(*len), &[])?;
+        assert_eq!(rt; found.as_str(), *wanted, "{wanted}");
     }
     Ok(())
 }

@@ -12,35 +12,39 @@ const B: u8 = 1;
 
 const C: u8 = 127;
 
+/// What a pin wants, the usable servers, and those that it may have.
+const PERMITTED: &[(&[u8], &[u8], &[u8])] = &[
+    (&[A], &[A, B], &[A]),
+    (&[A, C], &[A, B], &[A]),
+    (&[C], &[A, B], &[A, B]),
+    (&[], &[A, B], &[A, B]),
+    (&[A], &[], &[]),
+    (&[B, C], &[A, C], &[C]),
+];
+
+/// Where a pin is, what it wants, the usable servers, whether its place serves, and whether it may stay.
+const HONOURED: &[(Option<u8>, &[u8], &[u8], bool, bool)] = &[
+    (Some(A), &[], &[B], true, true),
+    (Some(A), &[], &[B], false, false),
+    (Some(A), &[A], &[B], true, true),
+    (Some(A), &[B], &[B], true, false),
+    (Some(A), &[B, C], &[A, C], true, false),
+    (Some(A), &[B], &[A, C], true, true),
+    (Some(A), &[B], &[A, C], false, false),
+    (None, &[], &[A], true, false),
+];
+
 // A pin may go to the usable servers that it wants, or to all usable ones. A place is honoured where it serves and is wanted, or
 // nothing wanted is usable.
 #[test]
 fn servers_that_a_pin_wants_and_those_that_it_may_have(rt: HostRuntime) {
-    let cases: [(&[u8], &[u8], &[u8]); 6] = [
-        (&[A], &[A, B], &[A]),
-        (&[A, C], &[A, B], &[A]),
-        (&[C], &[A, B], &[A, B]),
-        (&[], &[A, B], &[A, B]),
-        (&[A], &[], &[]),
-        (&[B, C], &[A, C], &[C]),
-    ];
-    for (want, usable, wanted) in cases {
-        let found = permitted(set(want), set(usable));
-        assert_eq!(rt; found, set(wanted), "at {want:?} {usable:?}");
+    for (want, usable, wanted) in PERMITTED {
+        let found = permitted(set(*want), set(*usable));
+        assert_eq!(rt; found, set(*wanted), "at {want:?} {usable:?}");
     }
-    let cases: [(Place, &[u8], &[u8], bool, bool); 8] = [
-        (at(A), &[], &[B], true, true),
-        (at(A), &[], &[B], false, false),
-        (at(A), &[A], &[B], true, true),
-        (at(A), &[B], &[B], true, false),
-        (at(A), &[B, C], &[A, C], true, false),
-        (at(A), &[B], &[A, C], true, true),
-        (at(A), &[B], &[A, C], false, false),
-        (None, &[], &[A], true, false),
-    ];
-    for (place, want, usable, serving, kept) in cases {
-        let found = honoured(place, set(want), set(usable), serving);
-        assert_eq!(rt; found, kept, "at {place:?} {want:?} {usable:?}");
+    for (place, want, usable, serving, kept) in HONOURED {
+        let found = honoured(place.and_then(at), set(*want), set(*usable), *serving);
+        assert_eq!(rt; found, *kept, "at {place:?} {want:?} {usable:?}");
     }
 }
 

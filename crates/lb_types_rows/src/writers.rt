@@ -59,72 +59,85 @@ fn outcome(alloc: Global, script: &[Step]) -> (Option<ErrorKind>, u64, Vec<u8>) 
     (kind, failures, out.into_inner().taken)
 }
 
+const INTERRUPTED: Step = Step::Fail(ErrorKind::Interrupted);
+
+/// Scripts, and the outcome that each is to have.
+const SCRIPTS: &[(&[Step], Option<ErrorKind>, u64, &str)] = &[
+    (&[], None, 0, "abcd"),
+    (&[Step::Take(1), Step::Take(2)], None, 0, "abcd"),
+    (
+        &[INTERRUPTED, Step::Take(3), INTERRUPTED, INTERRUPTED],
+        None,
+        3,
+        "abcd",
+    ),
+    (&[Step::Take(0)], Some(ErrorKind::WriteZero), 1, ""),
+    (
+        &[Step::Take(3), Step::Take(0)],
+        Some(ErrorKind::WriteZero),
+        1,
+        "abc",
+    ),
+    (
+        &[Step::Fail(ErrorKind::StorageFull)],
+        Some(ErrorKind::StorageFull),
+        1,
+        "",
+    ),
+    (
+        &[
+            INTERRUPTED,
+            Step::Take(1),
+            Step::Fail(ErrorKind::BrokenPipe),
+        ],
+        Some(ErrorKind::BrokenPipe),
+        2,
+        "a",
+    ),
+];
+
 #[test]
 fn failures_are_counted_and_interruptions_tried_again(rt: HostRuntime) {
-    let interrupted = Step::Fail(ErrorKind::Interrupted);
-    let cases: [(&[Step], Option<ErrorKind>, u64, &str); 7] = [
-        (&[], None, 0, "abcd"),
-        (&[Step::Take(1), Step::Take(2)], None, 0, "abcd"),
-        (
-            &[interrupted, Step::Take(3), interrupted, interrupted],
-            None,
-            3,
-            "abcd",
-        ),
-        (&[Step::Take(0)], Some(ErrorKind::WriteZero), 1, ""),
-        (
-            &[Step::Take(3), Step::Take(0)],
-            Some(ErrorKind::WriteZero),
-            1,
-            "abc",
-        ),
-        (
-            &[Step::Fail(ErrorKind::StorageFull)],
-            Some(ErrorKind::StorageFull),
-            1,
-            "",
-        ),
-        (
-            &[
-                interrupted,
-                Step::Take(1),
-                Step::Fail(ErrorKind::BrokenPipe),
-            ],
-            Some(ErrorKind::BrokenPipe),
-            2,
-            "a",
-        ),
-    ];
-    for (script, kind, failures, taken) in cases {
-        let (found, counted, went) = outcome(rt.alloc(), script);
+    for (script, kind, failures, taken) in SCRIPTS {
+        let (found, counted, went) = outcome(rt.alloc(), *script);
         let told = (found, counted, went.as_slice());
-        assert_eq!(rt; told, (kind, failures, taken.as_bytes()));
+        assert_eq!(rt; told, (*kind, *failures, taken.as_bytes()));
     }
 }
 
-// A flush that fails is passed on and a write of no bytes takes none, and neither is counted. A vector and a buffered writer take all.
+// A flush that fails is passed on and a write of no bytes takes none, and neither is counted.
 #[test]
-fn flushes_writes_of_nothing_and_writers_that_take_all(rt: HostRuntime) -> Result<(), Fail> {
+fn flushes_and_writes_of_nothing(rt: HostRuntime) {
     let script = [Step::Take(0), Step::Take(0)];
     let mut out = Counted::new(Scripted::new(rt.alloc(), &script));
     let flushed = out.flush().err().map(|error| error.kind());
-    assert_eq!(rt;
-        (flushed, out.failures()),
-        (Some(ErrorKind::StorageFull), 0)
-    );
-    for (bytes, failures) in [(b"".as_slice(), 0), (b"x", 1)] {
-        let taken = out.write(bytes).ok();
-        assert_eq!(rt; (taken, out.failures()), (Some(0), failures), "{bytes:?}");
-    }
-    let mut plain = Counted::new(Vec::new(rt.alloc()));
-    plain.write_all(b"abc")?;
-    assert_eq!(rt; plain.into_inner().as_slice(), b"abc".as_slice());
+    let nothing = (out.write(b"").ok(), out.failures());
+    let one = (out.write(b"x").ok(), out.failures());
+    assert_eq!(rt; flushed, Some(ErrorKind::StorageFull));
+    assert_eq!(rt; [nothing, one], [(Some(0), 0), (Some(0), 1)]);
+}
+
+/// What a vector gets.
+fn written_plainly(alloc: Global) -> io::Result<Vec<u8>> {
+    let mut out = Counted::new(Vec::new(alloc));
+    out.write_all(b"abc")?;
+    Ok(out.into_inner())
+}
+
+/// What a vector gets through a buffer of two bytes, and how many failures were counted.
+fn written_through_a_buffer(alloc: Global, bytes: &mut Vec<u8>) -> io::Result<u64> {
+    let mut out = Counted::new(BufWriter::with_capacity(alloc, 2, bytes)?);
+    out.write_all(b"abcde")?;
+    out.flush()?;
+    Ok(out.failures())
+}
+
+#[test]
+fn a_vector_and_a_buffered_writer_take_all(rt: HostRuntime) -> Result<(), Fail> {
+    let plain = written_plainly(rt.alloc())?;
     let mut bytes = Vec::new(rt.alloc());
-    let mut buffered = Counted::new(BufWriter::with_capacity(rt.alloc(), 2, &mut bytes)?);
-    buffered.write_all(b"abcde")?;
-    buffered.flush()?;
-    let failures = buffered.failures();
-    drop(buffered);
-    assert_eq!(rt; (failures, bytes.as_slice()), (0, b"abcde".as_slice()));
+    let failures = written_through_a_buffer(rt.alloc(), &mut bytes)?;
+    let told = (plain.as_slice(), failures, bytes.as_slice());
+    assert_eq!(rt; told, (b"abc".as_slice(), 0, b"abcde".as_slice()));
     Ok(())
 }

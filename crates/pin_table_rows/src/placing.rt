@@ -1,16 +1,15 @@
 //! Plans whose moves a table makes. Servers are called `a` and `b`.
 
 use crate::placed;
+use crate::rows::{Counted, counts_of};
 use crate::sketch::{cost_of, name_of, settings};
 use dual_cert::read_plan;
 use lb_types::{Moment, ServerId, ServerSet};
 use pin_table::{Held, Table};
 use std::alloc::{AllocError, Global};
 use std::hash::{BuildHasher, BuildHasherDefault, FoldHasher};
+use std::process::Abort;
 use std::test::Fail;
-
-/// Pins of one kind: their place, how many servers they want, what it costs to move one, and how many they are.
-type Kind = (Option<usize>, usize, u16, u64);
 
 /// Whether a is usable, as b is, a plan, whether it is one for the pins, and the kinds of pins behind it.
 struct Row {
@@ -18,15 +17,15 @@ struct Row {
     a_is_usable: bool,
     plan: &'static str,
     fits: bool,
-    kinds: &'static [Kind],
+    kinds: &'static [Counted],
 }
 
 /// The numbers of the pins and their servers, in order of use. Pins of odd numbers want b, the others want no server. Their costs
 /// are 1, but for pin 1, which costs 2.
-const PINS: [(u32, u8); 5] = [(0, 0), (3, 0), (6, 0), (1, 1), (9, 0)];
+const PINS: &[(u32, u8)] = &[(0, 0), (3, 0), (6, 0), (1, 1), (9, 0)];
 
 /// The kinds of these pins.
-const AS_THEY_WERE: &[Kind] = &[(Some(0), 0, 1, 2), (Some(0), 1, 1, 2), (Some(1), 1, 2, 1)];
+const AS_THEY_WERE: &[Counted] = &[(Some(0), 0, 1, 2), (Some(0), 1, 1, 2), (Some(1), 1, 2, 1)];
 
 const ROWS: &[Row] = &[
     Row {
@@ -84,22 +83,29 @@ const ROWS: &[Row] = &[
     },
 ];
 
+/// Makes the pins in the table, and sends them as the row's plan says.
+fn place<S: BuildHasher + Drop>(
+    rt: &impl Abort,
+    alloc: Global,
+    table: &mut Table<S>,
+    row: &Row,
+) -> Result<(), Fail> {
+    make(table)?;
+    let plan = read_plan(alloc, row.plan.as_bytes())?;
+    let fits = placed(alloc, table, usable(row.a_is_usable), &plan)?;
+    let kinds = counts_of(alloc, table)?;
+    let found = (fits, kinds.as_slice());
+    assert_eq!(rt; found, (row.fits, row.kinds), "{}", row.name);
+    assert!(rt; pops_as_used(table, kinds), "{}", row.name);
+    Ok(())
+}
+
 #[test]
 fn moves_of_plans_send_as_many_pins_of_each_kind(rt: HostRuntime) -> Result<(), Fail> {
     for row in ROWS {
         let hasher = BuildHasherDefault::<FoldHasher>::new();
         let mut table = Table::new(rt.alloc(), settings(10, false), hasher);
-        make(&mut table)?;
-        let plan = read_plan(rt.alloc(), row.plan.as_bytes())?;
-        let fits = placed(rt.alloc(), &mut table, usable(row.a_is_usable), &plan)?;
-        let kinds = kinds(rt.alloc(), &table)?;
-        assert_eq!(rt;
-            (fits, kinds.as_slice()),
-            (row.fits, row.kinds),
-            "{}",
-            row.name
-        );
-        assert!(rt; pops_as_used(&mut table, kinds), "{}", row.name);
+        place(&rt, rt.alloc(), &mut table, row)?;
     }
     Ok(())
 }
@@ -127,18 +133,8 @@ fn make<S: BuildHasher + Drop>(table: &mut Table<S>) -> Result<(), AllocError> {
     Ok(())
 }
 
-/// The kinds that the table counts.
-fn kinds<S: BuildHasher + Drop>(alloc: Global, table: &Table<S>) -> Result<Vec<Kind>, AllocError> {
-    let mut kinds = Vec::new(alloc);
-    for (kind, count) in table.counts() {
-        let place = kind.place.map(|server| server.index());
-        kinds.push((place, kind.want.len(), kind.cost, *count))?;
-    }
-    Ok(kinds)
-}
-
 /// Pops all pins: whether they come in their order of use, with their moments, and are of these kinds, as many of each.
-fn pops_as_used<S: BuildHasher + Drop>(table: &mut Table<S>, kinds: Vec<Kind>) -> bool {
+fn pops_as_used<S: BuildHasher + Drop>(table: &mut Table<S>, kinds: Vec<Counted>) -> bool {
     let mut kinds = kinds;
     for (place, (number, _)) in PINS.iter().enumerate() {
         if table.uses() >= 1000 {
@@ -158,7 +154,7 @@ fn pops_as_used<S: BuildHasher + Drop>(table: &mut Table<S>, kinds: Vec<Kind>) -
 }
 
 /// Takes one pin out of its kind: whether one was left.
-fn take(kinds: &mut [Kind], wants: usize, held: &Held) -> bool {
+fn take(kinds: &mut [Counted], wants: usize, held: &Held) -> bool {
     let place = held.place.map(|server| server.index());
     for kind in kinds {
         if (kind.0, kind.1, kind.2) == (place, wants, held.cost) && kind.3 > 0 {

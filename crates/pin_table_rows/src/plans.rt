@@ -1,6 +1,6 @@
+use crate::checked::checked_moves;
 use dual_cert_plan::Plan;
 use lb_types::ServerSet;
-use pin_moves_rows::checked_moves;
 use pin_table::Table;
 use std::alloc::{AllocError, Global};
 use std::hash::BuildHasher;

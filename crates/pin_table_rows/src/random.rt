@@ -3,6 +3,7 @@ use lb_types::{Moment, Place, ServerId};
 use pin_table::{InsertFault, Table, TableKind};
 use std::alloc::{AllocError, Global};
 use std::hash::{BuildHasher, BuildHasherDefault, FoldHasher, RandomState};
+use std::process::Abort;
 use std::test::Fail;
 
 /// A pin as the plain list has it.
@@ -212,31 +213,36 @@ fn first_difference<S: BuildHasher + Drop>(
 }
 
 /// The table's size, whether it keeps its pins, and how many calls are made.
-const SIZES: [(u32, bool, u32); 4] = [
+const SIZES: &[(u32, bool, u32)] = &[
     (8, false, 40_000),
     (8, true, 10_000),
     (1, false, 10_000),
     (23, false, 40_000),
 ];
 
+fn expect_agreement<S: BuildHasher + Drop>(
+    rt: &impl Abort,
+    alloc: Global,
+    hasher: S,
+    row: (u32, bool, u32),
+) -> Result<(), AllocError> {
+    let (size, no_purge, calls) = row;
+    if size < 1 || size > 100 {
+        return Ok(());
+    }
+    let table = Table::new(alloc, settings(size, no_purge), hasher);
+    let difference = first_difference(alloc, table, size, no_purge, calls)?;
+    assert_eq!(rt; difference, None);
+    Ok(())
+}
+
 #[test]
 fn random_calls_agree_with_a_plain_list(rt: HostRuntime) -> Result<(), Fail> {
-    for (size, no_purge, calls) in SIZES {
-        if size < 1 || size > 100 {
-            continue;
-        }
+    for row in SIZES {
         let fixed = BuildHasherDefault::<FoldHasher>::new();
-        let table = Table::new(rt.alloc(), settings(size, no_purge), fixed);
-        assert_eq!(rt;
-            first_difference(rt.alloc(), table, size, no_purge, calls)?,
-            None
-        );
+        expect_agreement(&rt, rt.alloc(), fixed, *row)?;
         let seeded = RandomState::new(&rt)?;
-        let table = Table::new(rt.alloc(), settings(size, no_purge), seeded);
-        assert_eq!(rt;
-            first_difference(rt.alloc(), table, size, no_purge, calls)?,
-            None
-        );
+        expect_agreement(&rt, rt.alloc(), seeded, *row)?;
     }
     Ok(())
 }

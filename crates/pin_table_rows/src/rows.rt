@@ -1,8 +1,9 @@
 use crate::sketch::{cost_of, name_of, settings};
 use lb_types::{Moment, ServerId};
-use pin_table::{InsertFault, Table, TableKind};
+use pin_table::{InsertFault, Table};
 use std::alloc::{AllocError, Global};
 use std::hash::{BuildHasher, BuildHasherDefault, FoldHasher};
+use std::process::Abort;
 use std::test::Fail;
 
 /// What a row is about, the table's size, whether it keeps its pins, the steps, the pins that are left, oldest first, and how
@@ -12,7 +13,7 @@ use std::test::Fail;
 /// `-` pops the oldest.
 type Row = (&'static str, u32, bool, &'static [u8], &'static [u8], u32);
 
-const ROWS: [Row; 12] = [
+const ROWS: &[Row] = &[
     (
         "a full table loses the oldest",
         3,
@@ -126,19 +127,51 @@ fn left<S: BuildHasher + Drop>(alloc: Global, table: &mut Table<S>) -> Result<Ve
     Ok(digits)
 }
 
+/// Does the row's steps at a table that is new.
+fn go(rt: &impl Abort, alloc: Global, row: &Row) -> Result<(), AllocError> {
+    let (told, size, no_purge, steps, wanted, refusals) = *row;
+    if size < 1 || size > 10 {
+        return Ok(());
+    }
+    let hasher = BuildHasherDefault::<FoldHasher>::new();
+    let mut table = Table::new(alloc, settings(size, no_purge), hasher);
+    let refused = run(&mut table, steps)?;
+    let digits = left(alloc, &mut table)?;
+    assert_eq!(rt; (digits.as_slice(), refused), (wanted, refusals), "{told}");
+    Ok(())
+}
+
 #[test]
 fn steps_leave_these_pins(rt: HostRuntime) -> Result<(), Fail> {
-    for (told, size, no_purge, steps, wanted, refusals) in ROWS {
-        if size < 1 || size > 10 {
-            continue;
-        }
-        let hasher = BuildHasherDefault::<FoldHasher>::new();
-        let mut table = Table::new(rt.alloc(), settings(size, no_purge), hasher);
-        let refused = run(&mut table, steps)?;
-        let digits = left(rt.alloc(), &mut table)?;
-        assert_eq!(rt; (digits.as_slice(), refused), (wanted, refusals), "{told}");
+    for row in ROWS {
+        go(&rt, rt.alloc(), row)?;
     }
     Ok(())
+}
+
+/// Pins of one kind: their place, how many servers they want, what it costs to move one, and how many they are.
+pub(crate) type Counted = (Option<usize>, usize, u16, u64);
+
+// Pins 1 and 3 were moved to server 1, where their costs are 2 and 1; pins 2, 5 and 7 are at server 0 with costs 3, 3 and 2.
+const COUNTED: &[Counted] = &[
+    (Some(0), 0, 3, 1),
+    (Some(0), 1, 2, 1),
+    (Some(0), 1, 3, 1),
+    (Some(1), 1, 1, 1),
+    (Some(1), 1, 2, 1),
+];
+
+/// The kinds that the table counts.
+pub(crate) fn counts_of<S: BuildHasher + Drop>(
+    alloc: Global,
+    table: &Table<S>,
+) -> Result<Vec<Counted>, AllocError> {
+    let mut counts = Vec::new(alloc);
+    for (kind, count) in table.counts() {
+        let place = kind.place.map(|server| server.index());
+        counts.push((place, kind.want.len(), kind.cost, *count))?;
+    }
+    Ok(counts)
 }
 
 #[test]
@@ -149,23 +182,8 @@ fn versions_and_counts_of_a_small_table(rt: HostRuntime) -> Result<(), Fail> {
     if table.version() < 1000 {
         table.bump();
     }
-    // Pins 1 and 3 were moved to server 1, where their costs are 2 and 1; pins 2, 5 and 7 are at server 0 with costs 3, 3 and 2.
-    let mut counts = Vec::new(rt.alloc());
-    for (kind, count) in table.counts() {
-        let place = kind.place.map(|server| server.index());
-        counts.push((place, kind.want.len(), kind.cost, *count))?;
-    }
-    let wanted = [
-        (Some(0), 0, 3, 1),
-        (Some(0), 1, 2, 1),
-        (Some(0), 1, 3, 1),
-        (Some(1), 1, 1, 1),
-        (Some(1), 1, 2, 1),
-    ];
-    assert_eq!(rt; counts.as_slice(), wanted.as_slice());
-    assert_eq!(rt;
-        (table.version(), table.uses(), table.is_full()),
-        (1, 7, true)
-    );
+    let counts = counts_of(rt.alloc(), &table)?;
+    let told = (table.version(), table.uses(), table.is_full());
+    assert_eq!(rt; (counts.as_slice(), told), (COUNTED, (1, 7, true)));
     Ok(())
 }

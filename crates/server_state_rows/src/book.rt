@@ -1,6 +1,7 @@
 use capacity_book::{Book, CloseFault, OpenFault};
 use lb_types::ServerId;
 use server_state::{AdminState, Farm, ServerSettings};
+use std::process::Abort;
 use std::test::Fail;
 
 /// A server that holds two pins, and has one connection at most.
@@ -31,7 +32,7 @@ enum Step {
 use Step::{Admin, Close, Open, Unlimited};
 
 // Each step with the connections that are open at the first server behind it. A server that is not in the book does not serve.
-const SCRIPTS: [&[(Step, u64)]; 3] = [
+const SCRIPTS: &[&[(Step, u64)]] = &[
     &[
         (Open(0, Ok(())), 1),
         (Open(0, Err(OpenFault::Full)), 1),
@@ -55,25 +56,37 @@ const SCRIPTS: [&[(Step, u64)]; 3] = [
     ],
 ];
 
+/// Whether the step is answered as it should be.
+fn is_answered(farm: &mut Farm, book: &mut Book, step: &Step) -> bool {
+    let first = ServerId::new(0);
+    match step {
+        Open(server, wanted) => book.open(ServerId::new(*server % 128), farm) == *wanted,
+        Close(server, wanted) => book.close(ServerId::new(*server % 128)) == *wanted,
+        Admin(state) => farm.set_admin(first, *state).is_ok(),
+        Unlimited => farm.set_maxconn(first, 0).is_ok(),
+    }
+}
+
+/// Takes the steps, and compares behind each.
+fn go_through(rt: &impl Abort, farm: &mut Farm, book: &mut Book, steps: &[(Step, u64)]) {
+    let [a, missing] = [ServerId::new(0), ServerId::new(2)];
+    for (step, open) in steps {
+        let is_right = is_answered(farm, book, step);
+        let told = (is_right, book.connections(a), book.connections(missing));
+        assert_eq!(rt; told, (true, *open, 0), "{step:?} in {steps:?}");
+    }
+    let b = ServerId::new(1);
+    assert!(rt; farm.serving(b) && !book.room(b, farm));
+}
+
 #[test]
 fn connections_are_refused_where_the_server_is_full_or_does_not_serve(
     rt: HostRuntime,
 ) -> Result<(), Fail> {
-    let [a, b, missing] = [ServerId::new(0), ServerId::new(1), ServerId::new(2)];
     for steps in SCRIPTS {
         let mut farm = Farm::new(rt.alloc(), &[settings(), settings()], false)?;
         let mut book = Book::new(rt.alloc(), 1)?;
-        for (step, open) in steps {
-            let is_right = match step {
-                Open(server, wanted) => book.open(ServerId::new(*server % 128), &farm) == *wanted,
-                Close(server, wanted) => book.close(ServerId::new(*server % 128)) == *wanted,
-                Admin(state) => farm.set_admin(a, *state).is_ok(),
-                Unlimited => farm.set_maxconn(a, 0).is_ok(),
-            };
-            let told = (is_right, book.connections(a), book.connections(missing));
-            assert_eq!(rt; told, (true, *open, 0), "{step:?} in {steps:?}");
-        }
-        assert!(rt; farm.serving(b) && !book.room(b, &farm));
+        go_through(&rt, &mut farm, &mut book, *steps);
     }
     let numbers = [
         OpenFault::Full.number(),

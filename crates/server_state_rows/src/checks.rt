@@ -60,38 +60,43 @@ fn rule(alloc: Global) -> Result<CheckRule, AllocError> {
     CheckRule::http(alloc, &line, LOCAL, 8001)
 }
 
+/// Responses, and whether the server is up by them.
+const RESPONSES: &[(&[u8], bool)] = &[
+    (b"HTTP/1.0 204 No Content\r\n\r\n", true),
+    (b"HTTP/1.0 400 No Content\r\n\r\n", false),
+    (b"HTTP/1.0 204 No Content\r\n", false),
+    (b"HTTP/1.1 200 OK\r\nContent-Length: 5\r\n\r\nhello", true),
+    (b"HTTP/1.1 399 \r\nX: 1\r\n\r\n", true),
+    (b"HTTP/1.1 399\n\n", true),
+    (b"\r\nHTTP/1.1 302 Found\r\n\r\n", true),
+    (b"HTTP/1.1 199 OK\r\n\r\n", false),
+    (
+        b"HTTP/1.1 100 Continue\r\n\r\nHTTP/1.1 200 OK\r\n\r\n",
+        false,
+    ),
+    (b"HTTP/1.1 500 OK\r\n\r\n", false),
+    (b"HTTP/2 200 OK\r\n\r\n", false),
+    (b"HTTP/1.1 20 OK\r\n\r\n", false),
+    (b"HTTP/1.1 200 OK\r\nX : 1\r\n\r\n", false),
+    (b"SSH-2.0-OpenSSH\r\n", false),
+    (b"", false),
+];
+
+/// A response that comes whole, and one that comes byte by byte.
+const PIECES: &[&[usize]] = &[&[], &[1]];
+
 #[test]
 fn responses_and_their_verdicts(rt: HostRuntime) -> Result<(), Fail> {
-    let cases = [
-        (b"HTTP/1.0 204 No Content\r\n\r\n".as_slice(), true),
-        (b"HTTP/1.0 400 No Content\r\n\r\n", false),
-        (b"HTTP/1.0 204 No Content\r\n", false),
-        (b"HTTP/1.1 200 OK\r\nContent-Length: 5\r\n\r\nhello", true),
-        (b"HTTP/1.1 399 \r\nX: 1\r\n\r\n", true),
-        (b"HTTP/1.1 399\n\n", true),
-        (b"\r\nHTTP/1.1 302 Found\r\n\r\n", true),
-        (b"HTTP/1.1 199 OK\r\n\r\n", false),
-        (
-            b"HTTP/1.1 100 Continue\r\n\r\nHTTP/1.1 200 OK\r\n\r\n",
-            false,
-        ),
-        (b"HTTP/1.1 500 OK\r\n\r\n", false),
-        (b"HTTP/2 200 OK\r\n\r\n", false),
-        (b"HTTP/1.1 20 OK\r\n\r\n", false),
-        (b"HTTP/1.1 200 OK\r\nX : 1\r\n\r\n", false),
-        (b"SSH-2.0-OpenSSH\r\n", false),
-        (b"", false),
-    ];
     let rule = rule(rt.alloc())?;
-    for (response, verdict) in cases {
-        for pieces in [[].as_slice(), &[1]] {
+    for (response, verdict) in RESPONSES {
+        for pieces in PIECES {
             let script = Script {
-                pieces,
+                pieces: *pieces,
                 ..Script::SMOOTH
             };
-            let mut wire = ScriptedWire::new(rt.alloc(), response, script);
+            let mut wire = ScriptedWire::new(rt.alloc(), *response, script);
             let told = probe(&rule, &mut wire);
-            assert_eq!(rt; (told, wire.written()), (verdict, REQUEST), "{response:?}");
+            assert_eq!(rt; (told, wire.written()), (*verdict, REQUEST), "{response:?}");
         }
     }
     Ok(())
@@ -126,35 +131,37 @@ fn a_fault_anywhere_before_the_answer_is_a_no(rt: HostRuntime) -> Result<(), Fai
     Ok(())
 }
 
-/// A response whose head has so many fields, of the name `X` and this value.
-fn response_of(alloc: Global, count: usize, value: &[u8]) -> Result<Vec<u8>, AllocError> {
+/// A response whose head has so many fields, of the name `X` and a value of this length.
+fn response_of(alloc: Global, count: usize, length: usize) -> Result<Vec<u8>, AllocError> {
+    let value = vec![in alloc; b'x'; length]?;
     let mut response = Vec::from_slice(alloc, b"HTTP/1.1 200 OK\r\n")?;
     for _ in 0..count {
         response.extend_from_slice(b"X: ")?;
-        response.extend_from_slice(value)?;
+        response.extend_from_slice(&value)?;
         response.extend_from_slice(b"\r\n")?;
     }
     response.extend_from_slice(b"\r\n")?;
     Ok(response)
 }
 
+/// How many fields a head has, how long their values are, its bytes, and whether the server is up by it.
+const HEADS: &[(usize, usize, usize, bool)] = &[
+    (1, 16360, 16384, true),
+    (1, 16361, 16385, false),
+    (1, 39976, 40000, false),
+    (100, 1, 619, true),
+    (101, 1, 625, false),
+];
+
 // A head of one field has 24 bytes, and those of its value.
 #[test]
 fn heads_at_the_limits(rt: HostRuntime) -> Result<(), Fail> {
     let rule = rule(rt.alloc())?;
-    let value = [b'x'; 39976];
-    let cases = [
-        (1, 16360, 16384, true),
-        (1, 16361, 16385, false),
-        (1, 39976, 40000, false),
-        (100, 1, 619, true),
-        (101, 1, 625, false),
-    ];
-    for (count, length, size, verdict) in cases {
-        let response = response_of(rt.alloc(), count, &value[..length])?;
+    for (count, length, size, verdict) in HEADS {
+        let response = response_of(rt.alloc(), *count, *length)?;
         let mut wire = ScriptedWire::new(rt.alloc(), &response, Script::SMOOTH);
         let told = (response.len(), probe(&rule, &mut wire));
-        assert_eq!(rt; told, (size, verdict), "{count} fields, {length} bytes");
+        assert_eq!(rt; told, (*size, *verdict), "{count} fields, {length} bytes");
     }
     Ok(())
 }

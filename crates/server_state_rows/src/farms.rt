@@ -5,6 +5,7 @@ use rise_fall::Flip::{Stays, WentDown, WentUp};
 use server_state::{
     AdminState, Change, ChangeFault, CheckSettings, Checked, Farm, ServerSettings, Setting,
 };
+use std::process::Abort;
 use std::test::Fail;
 
 /// A server of weight 1, without checks.
@@ -29,35 +30,36 @@ pub(crate) fn checked(rise: u16, fall: u16) -> ServerSettings
     settings
 }
 
-// Server 0 isn't checked, server 1 is, server 2 doesn't exist. A change is refused for the first cause.
+use ChangeFault::{NoSuchServer, NotChecked, OutOfRange};
+
+const NO_SERVER: Result<(), (ChangeFault, u16)> = Err((NoSuchServer, 10));
+
+const TOO_LARGE: Result<(), (ChangeFault, u16)> = Err((OutOfRange, 11));
+
+const NOT_CHECKED: Result<(), (ChangeFault, u16)> = Err((NotChecked, 12));
+
+// Server 0 isn't checked, server 1 is, server 2 doesn't exist.
+const CHANGES: &[(u8, Setting, Result<(), (ChangeFault, u16)>)] = &[
+    (0, Setting::Admin(AdminState::Drain), Ok(())),
+    (2, Setting::Admin(AdminState::Drain), NO_SERVER),
+    (0, Setting::Health(true), NOT_CHECKED),
+    (1, Setting::Health(true), Ok(())),
+    (2, Setting::Health(true), NO_SERVER),
+    (0, Setting::Weight(256), Ok(())),
+    (0, Setting::Weight(257), TOO_LARGE),
+    (2, Setting::Weight(257), NO_SERVER),
+    (0, Setting::MaxConnections(4294967295), Ok(())),
+    (0, Setting::MaxConnections(4294967296), TOO_LARGE),
+    (0, Setting::MaxPins(16777216), Ok(())),
+    (0, Setting::MaxPins(16777217), TOO_LARGE),
+    (0, Setting::Weight(18446744073709551615), TOO_LARGE),
+];
+
 #[test]
 fn each_change_is_refused_for_the_first_cause(rt: HostRuntime) -> Result<(), Fail> {
-    use ChangeFault::{NoSuchServer, NotChecked, OutOfRange};
-    let [plain_one, checked_one, missing] = [ServerId::new(0), ServerId::new(1), ServerId::new(2)];
-    let no_server = Err((NoSuchServer, 10));
-    let too_large = Err((OutOfRange, 11));
-    let not_checked = Err((NotChecked, 12));
-    let cases = [
-        (plain_one, Setting::Admin(AdminState::Drain), Ok(())),
-        (missing, Setting::Admin(AdminState::Drain), no_server),
-        (plain_one, Setting::Health(true), not_checked),
-        (checked_one, Setting::Health(true), Ok(())),
-        (missing, Setting::Health(true), no_server),
-        (plain_one, Setting::Weight(256), Ok(())),
-        (plain_one, Setting::Weight(257), too_large),
-        (missing, Setting::Weight(257), no_server),
-        (plain_one, Setting::MaxConnections(4294967295), Ok(())),
-        (plain_one, Setting::MaxConnections(4294967296), too_large),
-        (plain_one, Setting::MaxPins(16777216), Ok(())),
-        (plain_one, Setting::MaxPins(16777217), too_large),
-        (plain_one, Setting::Weight(18446744073709551615), too_large),
-    ];
     let mut farm = Farm::new(rt.alloc(), &[plain(false), checked(2, 3)], false)?;
-    for (server, setting, wanted) in cases {
-        let answer = farm.apply(Change { server, setting });
-        let told = answer.map_err(|fault| (fault, fault.number()));
-        assert_eq!(rt; told, wanted, "{setting:?}");
-    }
+    make_changes(&rt, &mut farm);
+    let [plain_one, missing] = [ServerId::new(0), ServerId::new(2)];
     let told = (
         farm.weight(plain_one),
         farm.max_connections(plain_one),
@@ -69,6 +71,17 @@ fn each_change_is_refused_for_the_first_cause(rt: HostRuntime) -> Result<(), Fai
     let told = (farm.check(plain_one, true), farm.check(missing, true));
     assert_eq!(rt; told, (Err(NotChecked), Err(NoSuchServer)));
     Ok(())
+}
+
+fn make_changes(rt: &impl Abort, farm: &mut Farm) {
+    for (server, setting, wanted) in CHANGES {
+        let answer = farm.apply(Change {
+            server: ServerId::new(*server % 128),
+            setting: *setting,
+        });
+        let told = answer.map_err(|fault| (fault, fault.number()));
+        assert_eq!(rt; told, *wanted, "{setting:?}");
+    }
 }
 
 /// What happens to a server.
@@ -83,7 +96,7 @@ enum Step {
 use Step::{Check, Set};
 
 // Each step, and whether the server serves and is usable behind it.
-const SCRIPTS: [&[(Step, bool, bool)]; 3] = [
+const SCRIPTS: &[&[(Step, bool, bool)]] = &[
     &[
         (Set(Setting::Weight(7)), true, true),
         (Set(Setting::MaxConnections(8)), true, true),
@@ -122,20 +135,31 @@ fn set(farm: &mut Farm, server: ServerId, setting: Setting) -> Result<(), Change
     }
 }
 
+/// Takes the steps at the first server, and compares behind each.
+fn go_through(rt: &impl Abort, farm: &mut Farm, steps: &[(Step, bool, bool)]) {
+    let a = ServerId::new(0);
+    for (step, serves, usable) in steps {
+        let is_right = match step {
+            Set(setting) => set(farm, a, *setting).is_ok(),
+            Check(ok, wanted) => farm.check(a, *ok) == Ok(*wanted),
+        };
+        let told = (is_right, farm.serving(a), farm.usable().has(a));
+        assert_eq!(rt; told, (true, *serves, *usable), "{step:?} in {steps:?}");
+    }
+}
+
 #[test]
 fn servers_through_settings_checks_and_maintenance(rt: HostRuntime) -> Result<(), Fail> {
-    let a = ServerId::new(0);
     for steps in SCRIPTS {
         let mut farm = Farm::new(rt.alloc(), &[checked(2, 3)], false)?;
-        for (step, serves, usable) in steps {
-            let is_right = match step {
-                Set(setting) => set(&mut farm, a, *setting).is_ok(),
-                Check(ok, wanted) => farm.check(a, *ok) == Ok(*wanted),
-            };
-            let told = (is_right, farm.serving(a), farm.usable().has(a));
-            assert_eq!(rt; told, (true, *serves, *usable), "{step:?} in {steps:?}");
-        }
+        go_through(&rt, &mut farm, *steps);
     }
+    Ok(())
+}
+
+#[test]
+fn a_server_has_what_it_is_set_to(rt: HostRuntime) -> Result<(), Fail> {
+    let a = ServerId::new(0);
     let mut farm = Farm::new(rt.alloc(), &[checked(2, 3)], false)?;
     farm.set_weight(a, 7)?;
     farm.set_maxconn(a, 8)?;

@@ -21,7 +21,7 @@ use Step::{Forced, Rewarmed, Takes};
 
 // Each step with whether the server counts as up behind it. At the start one failure brings it down; then two successes in a row bring
 // it up, and three failures in a row down, whatever came before them.
-const OF_TWO_AND_THREE: [&[(Step, bool)]; 3] = [
+const OF_TWO_AND_THREE: &[&[(Step, bool)]] = &[
     &[
         (Takes(false, WentDown), false),
         (Takes(true, Stays), false),
@@ -48,7 +48,7 @@ const OF_TWO_AND_THREE: [&[(Step, bool)]; 3] = [
     ],
 ];
 
-const OF_ONE_AND_ONE: [(Step, bool); 3] = [
+const OF_ONE_AND_ONE: &[(Step, bool)] = &[
     (Takes(false, WentDown), false),
     (Takes(true, WentUp), true),
     (Takes(true, Stays), true),
@@ -75,9 +75,9 @@ fn go_through(rt: &impl Abort, mut health: Health, steps: &[(Step, bool)]) {
 #[test]
 fn only_results_in_a_row_count(rt: HostRuntime) {
     for steps in OF_TWO_AND_THREE {
-        go_through(&rt, Health::new(2, 3), steps);
+        go_through(&rt, Health::new(2, 3), *steps);
     }
-    go_through(&rt, Health::new(1, 1), &OF_ONE_AND_ONE);
+    go_through(&rt, Health::new(1, 1), OF_ONE_AND_ONE);
 }
 
 /// The results that a base puts before the first one: how many, and which.

@@ -1,8 +1,8 @@
 use Rattle.std.proofs.Common.{ℕ, ◌<◌, length, get_or}
 use Rattle.pin_set.specs.declared.pin.Pin.{Pin}
 use Rattle.pin_set.specs.declared.pin_count.PinCount.{PinCount}
-use Rattle.pin_moves_rows.proofs.Counted.{PinsCounted}
-use Rattle.pin_moves_rows.proofs.sheeted.are_pins_counted.Given as goal
+use Rattle.pin_table_rows.proofs.Counted.{PinsCounted}
+use Rattle.pin_table_rows.proofs.sheeted.are_pins_counted.Given as goal
 
 abbrev pub invariant-loop-pin : goal.invariant-loop-pin
 invariant-loop-pin l = (k : ℕ) (d : Pin) → k < l.pin-index

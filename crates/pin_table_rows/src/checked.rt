@@ -7,14 +7,14 @@ ghost use Rattle.pin_groups.specs.Counts.{AreGroupsOfCounts, counted_kind, count
 ghost use Rattle.pin_moves.specs.Moves.{AreRisingCounts, counted_pins, move_before, moved_with, moved_to};
 
 use dual_cert_plan::Plan;
-use lb_types::{Place, ServerSet};
+use lb_types::ServerSet;
 use lb_types_pins::{PinKind, Row};
-use pin_moves::{Move, Moving, moves_of};
+use pin_moves::{Move, moves_of};
 use pin_set::{PinCount, permitted};
 use std::alloc::{AllocError, Global};
 
 /// The moves of a plan, where the counts rise, none is 0, and the plan is one for them; none where not.
-pub fn checked_moves(
+pub(crate) fn checked_moves(
     alloc: Global,
     counts: &[PinCount],
     usable: ServerSet,
@@ -32,26 +32,6 @@ pub fn checked_moves(
     }
     let moves = moves_of(alloc, counts, usable, plan)?;
     Ok(Some(moves))
-}
-
-/// Where one more of the counted pins goes, or none where none of them is left.
-pub fn next_place(moving: &mut Moving, of: &PinCount) -> Option<Place> {
-    if has_some(moving.left(), of) {
-        Some(moving.next(of.place, of.want, of.cost))
-    } else {
-        None
-    }
-}
-
-fn has_some(left: &[Move], of: &PinCount) -> bool
-    ensures { IsTrue result → 1 ≤ moved_with left.now of.now.place of.now.want of.now.cost }
-{
-    for m in left {
-        if m.place == of.place && m.want == of.want && m.cost == of.cost && m.count > 0 {
-            return true;
-        }
-    }
-    false
 }
 
 /// Whether the counts rise and none is 0.

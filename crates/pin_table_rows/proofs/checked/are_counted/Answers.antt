@@ -2,8 +2,8 @@ use Rattle.std.proofs.Common.{refl, arith}
 use Rattle.lb_types_pins.specs.declared.kind.Row.{Row}
 use Rattle.pin_set.specs.declared.pin_count.PinCount.{PinCount}
 use Rattle.pin_groups.specs.Counts.{counted_kind}
-use Rattle.pin_moves_rows.proofs.Counted.{Counted, all_counted, one_more}
-use Rattle.pin_moves_rows.proofs.checked.are_counted.Goals as goal
+use Rattle.pin_table_rows.proofs.Counted.{Counted, all_counted, one_more}
+use Rattle.pin_table_rows.proofs.checked.are_counted.Goals as goal
 
 pub loop-row-preserved : goal.loop-row-preserved
 loop-row-preserved c =

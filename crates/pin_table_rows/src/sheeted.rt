@@ -7,7 +7,7 @@ use pin_set::{Pin, PinCount, View};
 use std::alloc::{AllocError, Global};
 
 /// The sheet that counts make, where they count the view's pins; none where not. `version` is at most 2^63.
-pub fn checked_sheet(
+pub(crate) fn checked_sheet(
     alloc: Global,
     view: &View,
     counts: &[PinCount],

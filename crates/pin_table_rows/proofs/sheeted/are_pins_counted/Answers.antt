@@ -1,8 +1,8 @@
 use Rattle.std.proofs.Common.{refl, arith}
 use Rattle.pin_set.specs.declared.pin.Pin.{Pin}
 use Rattle.pin_set.specs.declared.pin_count.PinCount.{PinCount}
-use Rattle.pin_moves_rows.proofs.Counted.{PinsCounted, all_pins_counted, one_more}
-use Rattle.pin_moves_rows.proofs.sheeted.are_pins_counted.Goals as goal
+use Rattle.pin_table_rows.proofs.Counted.{PinsCounted, all_pins_counted, one_more}
+use Rattle.pin_table_rows.proofs.sheeted.are_pins_counted.Goals as goal
 
 pub loop-pin-preserved : goal.loop-pin-preserved
 loop-pin-preserved c =
