@@ -42,7 +42,7 @@ fn own_answers_have_their_texts(rt: HostRuntime) {
         ),
         (100, continue_text(), 100, b"HTTP/1.1 100 Continue\r\n\r\n"),
     ];
-    for (status, text, expected_status, expected_text) in cases {
+    for (status, text, expected_status, expected_text) in &cases {
         assert!(rt;
             status == expected_status && text == expected_text,
             "{expected_status}"

@@ -1,6 +1,8 @@
+use crate::sending::send_through;
 use http_relay_body::{BodyFault, send_body};
 use http_relay_forward::BodyKind;
 use http_relay_wire::{Script, ScriptedWire, WireFault};
+use std::alloc::{AllocError, Global};
 use std::test::Fail;
 
 const CHUNKS: BodyKind = BodyKind::Chunked;
@@ -9,74 +11,112 @@ const SEVEN: &[u8] = b"1234567";
 
 const CHUNKED: &[u8] = b"10\r\n0123456789abcdef\r\n0\r\n\r\n";
 
+// Bodies.
+const GOOD_BODIES: &[(BodyKind, &[u8])] = &[
+    (BodyKind::Empty, b""),
+    (BodyKind::Length(0), b""),
+    (BodyKind::Length(2), b"hi"),
+    (BodyKind::Length(5), b"0\r\n\r\n"),
+    (BodyKind::Length(7), SEVEN),
+    (CHUNKS, CHUNKED),
+    (CHUNKS, b"0\r\n\r\n"),
+    (CHUNKS, b"000\r\n\r\n"),
+    (CHUNKS, b"0;last\r\n\n"),
+    (CHUNKS, b"1\r\nx\r\n2\r\nyz\r\n0\r\n\r\n"),
+    (CHUNKS, b"1;a=b;c=\"d\"\r\nx\r\n0\r\nX-T: 1\r\nY: \r\n\r\n"),
+    (CHUNKS, b"2;x\r\nhi\r\n0\r\nX: 1\r\n\r\n"),
+    (CHUNKS, b"0A \t\r\n\r\n\r\n\r\n\r\n\r\n\r\n0\r\n\r\n"),
+    (CHUNKS, b"0000000000000001\r\nx\r\n0\r\n\r\n"),
+];
+
+// The bytes that a client sends in pieces.
+const PIECES: &[&[usize]] = &[&[], &[1], &[3, 2], &[2, 5]];
+
+// A client that behaves well.
+fn in_pieces(pieces: &[usize]) -> Script<'_> {
+    Script {
+        pieces,
+        ..Script::SMOOTH
+    }
+}
+
+// Whether the body goes out whole, of which these bytes stand behind the head and the rest comes from the client, and what is left of that
+// stays unread.
+fn is_sent(
+    alloc: Global,
+    kind: BodyKind,
+    body: &[u8],
+    behind: &[u8],
+    rest: &[u8],
+    script: Script,
+    left: &[u8],
+) -> bool {
+    let mut client = ScriptedWire::new(alloc, rest, script);
+    let mut server = ScriptedWire::new(alloc, b"", Script::SMOOTH);
+    let answer = send_body(kind, behind, &mut client, &mut server);
+    answer == Ok(()) && server.written() == body && client.unread() == left
+}
+
+// Behind how many bytes of the input the head's bytes end where its body isn't sent, if there is such a place.
+fn failing_cut(
+    alloc: Global,
+    kind: BodyKind,
+    body: &[u8],
+    input: &[u8],
+    script: Script,
+) -> Option<usize> {
+    for at in 0..input.len() {
+        let (behind, rest) = input.split_at(at);
+        let (_, left) = input.split_at(at.max(body.len()).min(input.len()));
+        if !is_sent(alloc, kind, body, behind, rest, script, left) {
+            return Some(at);
+        }
+    }
+    None
+}
+
+// A body before more bytes.
+fn with_more(alloc: Global, body: &[u8]) -> Result<Vec<u8>, AllocError> {
+    let mut input = Vec::from_slice(alloc, body)?;
+    input.extend_from_slice(b"GET /")?;
+    Ok(input)
+}
+
 // Each body stands before more bytes; the first of all of them came with the head, and the others come in these pieces.
 #[test]
 fn bodies_are_sent_and_nothing_behind_them_is_read(rt: HostRuntime) -> Result<(), Fail> {
-    let bodies = [
-        (BodyKind::Empty, b"".as_slice()),
-        (BodyKind::Length(0), b""),
-        (BodyKind::Length(2), b"hi"),
-        (BodyKind::Length(5), b"0\r\n\r\n"),
-        (BodyKind::Length(7), SEVEN),
-        (CHUNKS, CHUNKED),
-        (CHUNKS, b"0\r\n\r\n"),
-        (CHUNKS, b"000\r\n\r\n"),
-        (CHUNKS, b"0;last\r\n\n"),
-        (CHUNKS, b"1\r\nx\r\n2\r\nyz\r\n0\r\n\r\n"),
-        (CHUNKS, b"1;a=b;c=\"d\"\r\nx\r\n0\r\nX-T: 1\r\nY: \r\n\r\n"),
-        (CHUNKS, b"2;x\r\nhi\r\n0\r\nX: 1\r\n\r\n"),
-        (CHUNKS, b"0A \t\r\n\r\n\r\n\r\n\r\n\r\n\r\n0\r\n\r\n"),
-        (CHUNKS, b"0000000000000001\r\nx\r\n0\r\n\r\n"),
-    ];
-    for (kind, body) in bodies {
-        let mut input = Vec::from_slice(rt.alloc(), body)?;
-        input.extend_from_slice(b"GET /")?;
-        for pieces in [[].as_slice(), &[1], &[3, 2], &[2, 5]] {
-            for at in 0..input.len() {
-                let (behind, rest) = input.split_at(at);
-                let (_, left) = input.split_at(at.max(body.len()).min(input.len()));
-                let script = Script {
-                    pieces,
-                    ..Script::SMOOTH
-                };
-                let mut client = ScriptedWire::new(rt.alloc(), rest, script);
-                let mut server = ScriptedWire::new(rt.alloc(), b"", Script::SMOOTH);
-                let answer = send_body(kind, behind, &mut client, &mut server);
-                assert!(rt;
-                    answer == Ok(()) && server.written() == body && client.unread() == left,
-                    "{kind:?}, {body:?} in {pieces:?} at {at}"
-                );
-            }
+    for (kind, body) in GOOD_BODIES {
+        let input = with_more(rt.alloc(), body)?;
+        for pieces in PIECES {
+            let failing = failing_cut(rt.alloc(), *kind, body, &input, in_pieces(pieces));
+            assert_eq!(rt; failing, None, "{kind:?}, {body:?} in {pieces:?}");
         }
     }
     Ok(())
 }
 
+// A body of 40,000 bytes between these.
+fn long_body(alloc: Global, front: &[u8], end: &[u8]) -> Result<Vec<u8>, AllocError> {
+    let mut body = Vec::from_slice(alloc, front)?;
+    for _ in 0..40_000 {
+        body.push(b'x')?;
+    }
+    body.extend_from_slice(end)?;
+    Ok(body)
+}
+
 // The bytes go through a room of 16384.
 #[test]
 fn bodies_longer_than_the_room_are_sent(rt: HostRuntime) -> Result<(), Fail> {
-    let bodies = [
-        (BodyKind::Length(40_000), b"".as_slice(), b"".as_slice()),
+    let bodies: &[(BodyKind, &[u8], &[u8])] = &[
+        (BodyKind::Length(40_000), b"", b""),
         (CHUNKS, b"9c40\r\n", b"\r\n0\r\n\r\n"),
     ];
     for (kind, front, end) in bodies {
-        let mut body = Vec::from_slice(rt.alloc(), front)?;
-        for _ in 0..40_000 {
-            body.push(b'x')?;
-        }
-        body.extend_from_slice(end)?;
+        let body = long_body(rt.alloc(), front, end)?;
         for pieces in [[].as_slice(), &[5000]] {
-            let script = Script {
-                pieces,
-                ..Script::SMOOTH
-            };
-            let mut client = ScriptedWire::new(rt.alloc(), &body, script);
-            let mut server = ScriptedWire::new(rt.alloc(), b"", Script::SMOOTH);
-            let answer = send_body(kind, b"", &mut client, &mut server);
-            assert!(rt;
-                answer == Ok(()) && server.written() == body.as_slice(),
-                "{kind:?} in {pieces:?}"
-            );
+            let is_sent = is_sent(rt.alloc(), *kind, &body, b"", &body, in_pieces(pieces), b"");
+            assert!(rt; is_sent, "{kind:?} in {pieces:?}");
         }
     }
     Ok(())
@@ -86,27 +126,24 @@ fn bodies_longer_than_the_room_are_sent(rt: HostRuntime) -> Result<(), Fail> {
 #[test]
 fn where_no_byte_is_wanted_nothing_is_read(rt: HostRuntime) {
     let broken = Err(BodyFault::Client(WireFault::Broken));
-    let cases = [
+    let unread = Script {
+        reads: 0,
+        ..Script::SMOOTH
+    };
+    for (kind, expected) in [
         (BodyKind::Empty, Ok(())),
         (BodyKind::Length(0), Ok(())),
         (BodyKind::Length(1), broken),
         (CHUNKS, broken),
-    ];
-    for (kind, expected) in cases {
-        let script = Script {
-            reads: 0,
-            ..Script::SMOOTH
-        };
-        let mut client = ScriptedWire::new(rt.alloc(), SEVEN, script);
-        let mut server = ScriptedWire::new(rt.alloc(), b"", Script::SMOOTH);
-        let answer = send_body(kind, b"", &mut client, &mut server);
-        assert!(rt; answer == expected, "{kind:?}");
+    ] {
+        let (answer, _) = send_through(rt.alloc(), kind, SEVEN, unread, Script::SMOOTH);
+        assert_eq!(rt; answer, expected, "{kind:?}");
     }
 }
 
 // Bytes that may still become a body are cut short, and bytes that can become none are refused, also inside a line. The first size of
 // two rows is 2^64 - 1.
-const BAD_BODIES: [(BodyKind, &[u8], BodyFault); 43] = [
+const BAD_BODIES: &[(BodyKind, &[u8], BodyFault)] = &[
     (CHUNKS, b"", BodyFault::Truncated),
     (CHUNKS, b"1\r", BodyFault::Truncated),
     (CHUNKS, b"1\r\nx\r", BodyFault::Truncated),
@@ -172,15 +209,10 @@ const BAD_BODIES: [(BodyKind, &[u8], BodyFault); 43] = [
 fn bad_bodies_are_told_by_their_faults(rt: HostRuntime) {
     for (kind, input, fault) in BAD_BODIES {
         for pieces in [[].as_slice(), &[1]] {
-            let script = Script {
-                pieces,
-                ..Script::SMOOTH
-            };
-            let mut client = ScriptedWire::new(rt.alloc(), input, script);
-            let mut server = ScriptedWire::new(rt.alloc(), b"", Script::SMOOTH);
-            let answer = send_body(kind, b"", &mut client, &mut server);
+            let client = in_pieces(pieces);
+            let (answer, sent) = send_through(rt.alloc(), *kind, input, client, Script::SMOOTH);
             assert!(rt;
-                answer == Err(fault) && input.starts_with(server.written()),
+                answer == Err(*fault) && sent.is_some(),
                 "{kind:?}, {input:?} in {pieces:?}"
             );
         }
@@ -196,37 +228,71 @@ fn bad_bodies_are_told_before_the_client_fails(rt: HostRuntime) {
             reads: input.len() as u64,
             ..Script::SMOOTH
         };
-        let due = match fault {
+        let due = match *fault {
             BodyFault::Truncated => BodyFault::Client(WireFault::Broken),
             other => other,
         };
-        let mut client = ScriptedWire::new(rt.alloc(), input, failing);
-        let mut server = ScriptedWire::new(rt.alloc(), b"", Script::SMOOTH);
-        let answer = send_body(kind, b"", &mut client, &mut server);
-        assert!(rt; answer == Err(due), "{kind:?}, {input:?}");
+        let (answer, _) = send_through(rt.alloc(), *kind, input, failing, Script::SMOOTH);
+        assert_eq!(rt; answer, Err(due), "{kind:?}, {input:?}");
     }
 }
 
-// Of a body that is told by its length all that came goes out.
+// Whether a client that ends behind these bytes is cut short there, and what is owed of them went out: all of a body that is told by its
+// length.
+fn is_cut_short(alloc: Global, kind: BodyKind, front: &[u8]) -> bool {
+    let mut client = ScriptedWire::new(alloc, front, Script::SMOOTH);
+    let mut server = ScriptedWire::new(alloc, b"", Script::SMOOTH);
+    let answer = send_body(kind, b"", &mut client, &mut server);
+    let is_sent = if kind == CHUNKS {
+        front.starts_with(server.written())
+    } else {
+        server.written() == front
+    };
+    answer == Err(BodyFault::Truncated) && is_sent && client.unread().is_empty()
+}
+
 #[test]
 fn a_client_that_ends_inside_its_body_is_cut_short(rt: HostRuntime) {
     for (kind, body) in [(BodyKind::Length(7), SEVEN), (CHUNKS, CHUNKED)] {
         for end in 0..body.len() {
             let (front, _) = body.split_at(end);
-            let mut client = ScriptedWire::new(rt.alloc(), front, Script::SMOOTH);
-            let mut server = ScriptedWire::new(rt.alloc(), b"", Script::SMOOTH);
-            let answer = send_body(kind, b"", &mut client, &mut server);
-            let is_sent = if kind == CHUNKS {
-                front.starts_with(server.written())
-            } else {
-                server.written() == front
-            };
             assert!(rt;
-                answer == Err(BodyFault::Truncated) && is_sent && client.unread().is_empty(),
+                is_cut_short(rt.alloc(), kind, front),
                 "{kind:?}, end at {end}"
             );
         }
     }
+}
+
+// A hundred chunks of this content, each behind its line, and the end.
+fn hundred_chunks(
+    alloc: Global,
+    line: &[u8],
+    content: &[u8],
+    end: &[u8],
+) -> Result<Vec<u8>, AllocError> {
+    let mut input = Vec::new(alloc);
+    for _ in 0..100 {
+        input.extend_from_slice(line)?;
+        input.extend_from_slice(content)?;
+        input.extend_from_slice(b"\r\n")?;
+    }
+    input.extend_from_slice(end)?;
+    Ok(input)
+}
+
+// Whether so many reads and writes are enough for these chunks.
+fn is_enough(alloc: Global, input: &[u8], reads: u64, writes: u64) -> bool {
+    let limited = Script {
+        reads,
+        ..Script::SMOOTH
+    };
+    let failing = Script {
+        failing_write: Some((writes, WireFault::Broken)),
+        ..Script::SMOOTH
+    };
+    let (answer, _) = send_through(alloc, CHUNKS, input, limited, failing);
+    answer.is_ok()
 }
 
 // As many reads and writes as these are enough, and one fewer is not. The first read takes the 4 bytes that the shortest body has, and
@@ -234,43 +300,21 @@ fn a_client_that_ends_inside_its_body_is_cut_short(rt: HostRuntime) {
 // before it, and CR LF costs one read more. What was judged goes out before each read but the first two, and at the end.
 #[test]
 fn a_chunk_costs_one_read_and_one_write(rt: HostRuntime) -> Result<(), Fail> {
+    let alloc = rt.alloc();
     let content = [b'x'; 16000];
-    for (line, size, end, reads, writes) in [
-        (
-            b"3e8\r\n".as_slice(),
-            1000,
-            b"0\r\n\r\n".as_slice(),
-            102,
-            101,
-        ),
+    let bodies: &[(&[u8], usize, &[u8], u64, u64)] = &[
+        (b"3e8\r\n", 1000, b"0\r\n\r\n", 102, 101),
         (b"3e8\r\n", 1000, b"0\r\n\n", 101, 100),
         (b"3e80\r\n", 16000, b"0\r\n\n", 101, 100),
-    ] {
-        let mut input = Vec::new(rt.alloc());
-        for _ in 0..100 {
-            input.extend_from_slice(line)?;
-            input.extend_from_slice(&content[..size])?;
-            input.extend_from_slice(b"\r\n")?;
-        }
-        input.extend_from_slice(end)?;
-        for (fewer_reads, fewer_writes) in [(0, 0), (1, 0), (0, 1)] {
-            let limited = Script {
-                reads: reads - fewer_reads,
-                ..Script::SMOOTH
-            };
-            let failing = Script {
-                failing_write: Some((writes - fewer_writes, WireFault::Broken)),
-                ..Script::SMOOTH
-            };
-            let mut client = ScriptedWire::new(rt.alloc(), &input, limited);
-            let mut server = ScriptedWire::new(rt.alloc(), b"", failing);
-            let answer = send_body(CHUNKS, b"", &mut client, &mut server);
-            assert_eq!(rt;
-                answer.is_ok(),
-                fewer_reads + fewer_writes == 0,
-                "{size} with {fewer_reads} reads and {fewer_writes} writes fewer"
-            );
-        }
+    ];
+    for (line, size, end, reads, writes) in bodies {
+        let input = hundred_chunks(alloc, line, &content[..*size], end)?;
+        let answers = (
+            is_enough(alloc, &input, *reads, *writes),
+            is_enough(alloc, &input, reads.saturating_sub(1), *writes),
+            is_enough(alloc, &input, *reads, writes.saturating_sub(1)),
+        );
+        assert_eq!(rt; answers, (true, false, false), "{size}");
     }
     Ok(())
 }

@@ -1,4 +1,5 @@
-use http_relay_body::{BodyFault, CopyFault, send_body};
+use crate::sending::send_through;
+use http_relay_body::{BodyFault, CopyFault};
 use http_relay_forward::BodyKind;
 use http_relay_head::{HEAD_ROOM, HeadFault, read_head};
 use http_relay_wire::{Script, ScriptedWire, WireFault};
@@ -39,58 +40,62 @@ fn each_read_of_a_head_fails_in_turn(rt: HostRuntime) {
     }
 }
 
-// What a body gives through these wires, and how many of its bytes were written.
-fn send_through(
-    alloc: Global,
-    kind: BodyKind,
-    body: &[u8],
-    client: Script,
-    server: Script,
-) -> (Result<(), BodyFault>, Option<u64>) {
-    let mut client = ScriptedWire::new(alloc, body, client);
-    let mut server = ScriptedWire::new(alloc, b"", server);
-    let answer = send_body(kind, b"", &mut client, &mut server);
-    let written = server.written();
-    let sent = if body.starts_with(written) {
-        Some(written.len() as u64)
-    } else {
-        None
-    };
-    (answer, sent)
-}
-
 // A body, the bytes of each read and each write, and how many of them fail in turn. So many bytes were read or written before.
-const BODIES: [(BodyKind, &[u8], usize, u64); 4] = [
+const BODIES: &[(BodyKind, &[u8], usize, u64)] = &[
     (BodyKind::Length(7), b"1234567", 1, 7),
     (CHUNKS, b"10\r\n0123456789abcdef\r\n0\r\n\r\n", 1, 27),
     (BodyKind::Length(2), b"0\r\n\r\n", 1000, 1),
     (CHUNKS, b"0\r\n\r\n", 1000, 1),
 ];
 
-// Of a chunked body a line goes out when it is whole.
+// Whether the read of this number fails so, and with as many bytes gone out as are owed: of a chunked body a line goes out when it is
+// whole.
+fn is_read_fault(
+    alloc: Global,
+    kind: BodyKind,
+    body: &[u8],
+    piece: usize,
+    failing: (u64, WireFault),
+) -> bool {
+    let (at, fault) = failing;
+    let reading = Script {
+        pieces: &[piece],
+        failing_read: Some(failing),
+        ..Script::SMOOTH
+    };
+    let (answer, sent) = send_through(alloc, kind, body, reading, Script::SMOOTH);
+    let is_sent = match sent {
+        Some(sent) => sent == at || (kind == CHUNKS && sent < at),
+        None => false,
+    };
+    answer == Err(BodyFault::Client(fault)) && is_sent
+}
+
+// Whether the write of this number fails so, and all that was written before went out.
+fn is_write_fault(
+    alloc: Global,
+    kind: BodyKind,
+    body: &[u8],
+    most_written: usize,
+    failing: (u64, WireFault),
+) -> bool {
+    let (at, fault) = failing;
+    let writing = Script {
+        most_written,
+        failing_write: Some(failing),
+        ..Script::SMOOTH
+    };
+    let (answer, sent) = send_through(alloc, kind, body, Script::SMOOTH, writing);
+    answer == Err(BodyFault::Server(fault)) && sent == Some(at)
+}
+
 #[test]
 fn each_read_and_each_write_of_a_body_fails_in_turn(rt: HostRuntime) {
     for fault in [WireFault::Timeout, WireFault::Broken] {
         for (kind, body, piece, count) in BODIES {
-            for at in 0..count {
-                let reading = Script {
-                    pieces: &[piece],
-                    failing_read: Some((at, fault)),
-                    ..Script::SMOOTH
-                };
-                let writing = Script {
-                    most_written: piece,
-                    failing_write: Some((at, fault)),
-                    ..Script::SMOOTH
-                };
-                let (answer, sent) = send_through(rt.alloc(), kind, body, reading, Script::SMOOTH);
-                let is_sent = match sent {
-                    Some(sent) => sent == at || (kind == CHUNKS && sent < at),
-                    None => false,
-                };
-                let read_fails = answer == Err(BodyFault::Client(fault)) && is_sent;
-                let (answer, sent) = send_through(rt.alloc(), kind, body, Script::SMOOTH, writing);
-                let write_fails = answer == Err(BodyFault::Server(fault)) && sent == Some(at);
+            for at in 0..*count {
+                let read_fails = is_read_fault(rt.alloc(), *kind, body, *piece, (at, fault));
+                let write_fails = is_write_fault(rt.alloc(), *kind, body, *piece, (at, fault));
                 assert!(rt; read_fails && write_fails, "{kind:?}, at {at}");
             }
         }
@@ -141,7 +146,7 @@ fn faults_have_their_numbers(rt: HostRuntime) {
             Some(93),
         ),
     ];
-    for (number, expected) in cases {
+    for (number, expected) in &cases {
         assert!(rt; number == expected, "{expected:?}");
     }
 }

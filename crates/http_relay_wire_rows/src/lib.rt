@@ -12,4 +12,6 @@ mod faults;
 #[cfg(test)]
 mod responses;
 #[cfg(test)]
+mod sending;
+#[cfg(test)]
 mod wires;

@@ -1,5 +1,6 @@
 use http_relay_body::{CopyFault, copy_back};
 use http_relay_wire::{Script, ScriptedWire, Wire, WireFault};
+use std::alloc::{AllocError, Global};
 use std::cell::Cell;
 use std::test::Fail;
 
@@ -57,67 +58,115 @@ fn a_response_goes_out_as_it_comes(rt: HostRuntime) {
     assert!(rt; copied == Ok(3) && log.get() == 1_212_121);
 }
 
+// A response of so many bytes.
+fn response_of(alloc: Global, size: u64) -> Result<Vec<u8>, AllocError> {
+    let mut response = Vec::new(alloc);
+    for _ in 0..size {
+        response.push(b'r')?;
+    }
+    Ok(response)
+}
+
+// What the copy of a response through these wires gives, and whether these bytes went out.
+fn copied(
+    alloc: Global,
+    response: &[u8],
+    server: Script,
+    client: Script,
+    written: &[u8],
+) -> (Result<u64, CopyFault>, bool) {
+    let mut server = ScriptedWire::new(alloc, response, server);
+    let mut client = ScriptedWire::new(alloc, b"", client);
+    let copied = copy_back(&mut server, &mut client);
+    (copied, client.written() == written)
+}
+
 #[test]
 fn responses_are_copied_to_their_end(rt: HostRuntime) -> Result<(), Fail> {
     for size in [0, 1, 100_000] {
-        let mut response = Vec::new(rt.alloc());
-        for _ in 0..size {
-            response.push(b'r')?;
-        }
+        let response = response_of(rt.alloc(), size)?;
         for pieces in [[].as_slice(), &[1, 16384]] {
             let script = Script {
                 pieces,
                 ..Script::SMOOTH
             };
-            let mut server = ScriptedWire::new(rt.alloc(), &response, script);
-            let mut client = ScriptedWire::new(rt.alloc(), b"", Script::SMOOTH);
-            let copied = copy_back(&mut server, &mut client);
-            assert!(rt;
-                copied == Ok(size) && client.written() == response.as_slice(),
-                "{size} bytes in {pieces:?}"
-            );
+            let copied = copied(rt.alloc(), &response, script, Script::SMOOTH, &response);
+            assert_eq!(rt; copied, (Ok(size), true), "{size} bytes in {pieces:?}");
         }
     }
     Ok(())
 }
 
-// The response comes in these pieces, and goes out in writes of two bytes: the read that fails, the write that fails, the answer, and
+// A response that comes in these pieces, and goes out in writes of two bytes: the read that fails, the write that fails, the answer, and
 // what went out.
+type Failing = (
+    &'static [usize],
+    Option<(u64, WireFault)>,
+    Option<(u64, WireFault)>,
+    Result<u64, CopyFault>,
+    &'static [u8],
+);
+
+const fn failing(fault: WireFault) -> [Failing; 7] {
+    [
+        (
+            &[2],
+            Some((0, fault)),
+            None,
+            Err(CopyFault::NoResponse(fault)),
+            b"",
+        ),
+        (
+            &[2],
+            Some((1, fault)),
+            None,
+            Err(CopyFault::CutShort(fault)),
+            b"re",
+        ),
+        (
+            &[2],
+            Some((2, fault)),
+            None,
+            Err(CopyFault::CutShort(fault)),
+            b"resp",
+        ),
+        (&[2], Some((3, fault)), None, Ok(4), b"resp"),
+        (
+            &[],
+            None,
+            Some((0, fault)),
+            Err(CopyFault::Client(fault)),
+            b"",
+        ),
+        (
+            &[],
+            None,
+            Some((1, fault)),
+            Err(CopyFault::Client(fault)),
+            b"re",
+        ),
+        (&[], None, Some((2, fault)), Ok(4), b"resp"),
+    ]
+}
+
 #[test]
 fn a_fault_in_a_response_is_told(rt: HostRuntime) {
     for fault in [WireFault::Timeout, WireFault::Broken] {
-        let at = |number: u64| Some((number, fault));
-        let cases = [
-            (
-                [2].as_slice(),
-                at(0),
-                None,
-                Err(CopyFault::NoResponse(fault)),
-                b"".as_slice(),
-            ),
-            (&[2], at(1), None, Err(CopyFault::CutShort(fault)), b"re"),
-            (&[2], at(2), None, Err(CopyFault::CutShort(fault)), b"resp"),
-            (&[2], at(3), None, Ok(4), b"resp"),
-            (&[], None, at(0), Err(CopyFault::Client(fault)), b""),
-            (&[], None, at(1), Err(CopyFault::Client(fault)), b"re"),
-            (&[], None, at(2), Ok(4), b"resp"),
-        ];
-        for (pieces, failing_read, failing_write, expected, written) in cases {
+        for (pieces, failing_read, failing_write, expected, written) in &failing(fault) {
             let reading = Script {
                 pieces,
-                failing_read,
+                failing_read: *failing_read,
                 ..Script::SMOOTH
             };
             let writing = Script {
                 most_written: 2,
-                failing_write,
+                failing_write: *failing_write,
                 ..Script::SMOOTH
             };
-            let mut server = ScriptedWire::new(rt.alloc(), b"resp", reading);
-            let mut client = ScriptedWire::new(rt.alloc(), b"", writing);
-            let copied = copy_back(&mut server, &mut client);
-            assert!(rt;
-                copied == expected && client.written() == written,
+            let copied = copied(rt.alloc(), b"resp", reading, writing, written);
+            assert_eq!(rt;
+                copied,
+                (*expected, true),
                 "{failing_read:?}, {failing_write:?}"
             );
         }

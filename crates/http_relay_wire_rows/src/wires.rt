@@ -1,6 +1,7 @@
 ghost use Rattle.std.specs.Prelude.{◌≤◌, IfOk};
 
 use http_relay_wire::{FaultCounts, Script, ScriptedWire, SocketWire, Wire, WireFault, write_all};
+use std::alloc::Global;
 use std::io;
 use std::io::{ErrorKind, Read, Write};
 
@@ -40,6 +41,19 @@ fn broken_reads(count: u64) -> FaultCounts {
         reads_broken: count,
         ..FaultCounts::default()
     }
+}
+
+// Whether reads of these bytes give this, and leave these bytes and these counts.
+fn is_read(
+    alloc: Global,
+    input: &[u8],
+    script: Script,
+    expected: &[Given],
+    unread: &[u8],
+    counts: FaultCounts,
+) -> bool {
+    let mut wire = ScriptedWire::new(alloc, input, script);
+    gives(&mut wire, expected) && wire.unread() == unread && wire.faults() == counts
 }
 
 // Bytes come in the pieces of the script. A read fails where the script says, and loses nothing; with no read left it is broken.
@@ -115,14 +129,25 @@ fn reads_are_as_the_script_says(rt: HostRuntime) {
             broken_reads(1),
         ),
     ];
-    for (input, script, expected, unread, counts) in cases {
-        let mut wire = ScriptedWire::new(rt.alloc(), input, script);
-        let is_given = gives(&mut wire, expected);
+    for (input, script, expected, unread, counts) in &cases {
         assert!(rt;
-            is_given && wire.unread() == unread && wire.faults() == counts,
+            is_read(rt.alloc(), input, *script, expected, unread, *counts),
             "{input:?}, {script:?}"
         );
     }
+}
+
+// Whether a write of `hello` answers so, leaves these bytes, and counts a timeout where it fails.
+fn is_written(
+    alloc: Global,
+    script: Script,
+    expected: Result<(), WireFault>,
+    written: &[u8],
+) -> bool {
+    let mut wire = ScriptedWire::new(alloc, b"", script);
+    let answer = write_all(&mut wire, b"hello");
+    let failed = if answer.is_err() { 1 } else { 0 };
+    answer == expected && wire.written() == written && wire.faults().writes_timed_out == failed
 }
 
 // The most bytes of a write, the write that times out, and what is left of `hello`. Of all writes one has failed or none.
@@ -135,19 +160,14 @@ fn a_failing_write_leaves_a_beginning(rt: HostRuntime) {
         (2, Some((2, TIMEOUT)), Err(TIMEOUT), b"hell"),
         (2, Some((3, TIMEOUT)), Ok(()), b"hello"),
     ];
-    for (most_written, failing_write, expected, written) in cases {
+    for (most_written, failing_write, expected, written) in &cases {
         let script = Script {
-            most_written,
-            failing_write,
+            most_written: *most_written,
+            failing_write: *failing_write,
             ..Script::SMOOTH
         };
-        let mut wire = ScriptedWire::new(rt.alloc(), b"", script);
-        let answer = write_all(&mut wire, b"hello");
-        let failed = if answer.is_err() { 1 } else { 0 };
         assert!(rt;
-            answer == expected
-                && wire.written() == written
-                && wire.faults().writes_timed_out == failed,
+            is_written(rt.alloc(), script, *expected, written),
             "{failing_write:?}"
         );
     }
@@ -185,6 +205,18 @@ impl Write for Stream {
     fn flush(&mut self) -> io::Result<()> {
         Ok(())
     }
+}
+
+// What a write of these bytes, a write of all of them and a read answer. The read stands between the writes.
+fn answers(
+    stream: Stream,
+    bytes: &[u8],
+) -> (Result<usize, WireFault>, Result<(), WireFault>, Given) {
+    let mut wire = SocketWire::new(stream);
+    let written = wire.write(bytes);
+    let given = read_some(&mut wire);
+    let all_written = write_all(&mut wire, bytes);
+    (written, all_written, given)
 }
 
 // How each call of a stream fails, or how many bytes it takes; and what a write of these bytes, a write of all of them and a read
@@ -237,13 +269,14 @@ fn the_answers_of_a_stream_are_told_apart(rt: HostRuntime) {
         (None, 0, b"", Ok(0), Ok(()), Ok((0, 0))),
         (None, 2, b"abc", Ok(2), Ok(()), Ok((2, 0))),
     ];
-    for (kind, count, bytes, written, all_written, given) in cases {
-        let mut wire = SocketWire::new(Stream { kind, count });
-        let is_written = wire.write(bytes) == written;
-        let is_given = read_some(&mut wire) == given;
-        let are_all_written = write_all(&mut wire, bytes) == all_written;
-        assert!(rt;
-            is_written && is_given && are_all_written,
+    for (kind, count, bytes, written, all_written, given) in &cases {
+        let stream = Stream {
+            kind: *kind,
+            count: *count,
+        };
+        assert_eq!(rt;
+            answers(stream, bytes),
+            (*written, *all_written, *given),
             "{count} bytes of {bytes:?}, {written:?}"
         );
     }
