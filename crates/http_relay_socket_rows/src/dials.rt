@@ -1,8 +1,8 @@
 use http_relay_dial::{Dialer, Endpoint, Limits};
-use http_relay_system::{SocketDialer, SystemClock};
+use http_relay_system::{ServerWire, SocketDialer, SystemClock};
 use http_relay_wire::{SocketWire, Wire, WireFault, write_all};
 use lb_desk_ports::Clock;
-use std::net::{Ipv4Addr, Shutdown, TcpListener};
+use std::net::{Ipv4Addr, Shutdown, TcpListener, TcpStream};
 use std::test::Fail;
 use std::time::{Duration, Instant};
 
@@ -20,51 +20,78 @@ const LIMITS: &[(Option<u32>, Option<u32>)] = &[
     (Some(1000), Some(50)),
 ];
 
+// A connection that was dialled, and the server's end of it.
+fn dialled(
+    rt: &HostRuntime,
+    dialer: &mut SocketDialer,
+    limits: Limits,
+) -> Result<(ServerWire, TcpStream), Fail> {
+    let listener = TcpListener::bind(rt, "127.0.0.1:0")?;
+    let near = dialer.dial(rt, endpoint(listener.local_addr()?.port()), limits)?;
+    let (far, _) = listener.accept()?;
+    Ok((near, far))
+}
+
+// How many bytes come there and back, and how a read ends where none come.
+fn talked(
+    near: &mut impl Wire,
+    far: &mut impl Wire,
+    buffer: &mut [u8; 2],
+) -> Result<(usize, usize, Result<usize, WireFault>), WireFault> {
+    write_all(near, b"hi")?;
+    let there = far.read(buffer)?;
+    write_all(far, b"yo")?;
+    let back = near.read(buffer)?;
+    Ok((there, back, near.read(buffer)))
+}
+
 // Bytes go both ways over a connection that was dialled, silence ends a read at the limit, and hanging up resets it.
 #[test]
 fn a_server_that_listens_is_dialled(rt: HostRuntime) -> Result<(), Fail> {
     for (connect, transfer) in LIMITS {
-        let listener = TcpListener::bind(&rt, "127.0.0.1:0")?;
         let limits = Limits {
             connect: *connect,
             transfer: *transfer,
         };
         let mut dialer = SocketDialer::new();
-        let mut near = dialer.dial(&rt, endpoint(listener.local_addr()?.port()), limits)?;
-        let (far, _) = listener.accept()?;
+        let (mut near, far) = dialled(&rt, &mut dialer, limits)?;
         let mut far = SocketWire::new(far);
         let mut buffer = [0; 2];
-        write_all(&mut near, b"hi")?;
-        let there = far.read(&mut buffer)?;
-        write_all(&mut far, b"yo")?;
-        let back = near.read(&mut buffer)?;
-        let silence = near.read(&mut buffer);
+        let talked = talked(&mut near, &mut far, &mut buffer);
         dialer.hang_up(&rt, near);
         let end = far.read(&mut buffer);
         assert!(rt;
-            (there, back, silence, end) == (2, 2, Err(WireFault::Timeout), Err(WireFault::Broken))
+            talked == Ok((2, 2, Err(WireFault::Timeout)))
+                && end == Err(WireFault::Broken)
                 && buffer == *b"yo",
-            "{connect:?}"
+            "{connect:?}: {talked:?}"
         );
     }
     Ok(())
 }
 
+// How a write of these bytes ends, and how many milliseconds it took.
+fn timed_write(
+    rt: &HostRuntime,
+    wire: &mut impl Wire,
+    bytes: &[u8],
+) -> Result<(Result<(), WireFault>, u128), Fail> {
+    let begun = Instant::now(rt)?;
+    let written = write_all(wire, bytes);
+    Ok((written, begun.elapsed(rt)?.as_millis()))
+}
+
 // A server that takes nothing more ends a write at the limit.
 #[test]
 fn a_write_to_a_full_server_has_its_limit(rt: HostRuntime) -> Result<(), Fail> {
-    let listener = TcpListener::bind(&rt, "127.0.0.1:0")?;
     let limits = Limits {
         connect: None,
         transfer: Some(50),
     };
     let bytes = Vec::from_elem(rt.alloc(), 7, 20_000_000)?;
     let mut dialer = SocketDialer::new();
-    let mut near = dialer.dial(&rt, endpoint(listener.local_addr()?.port()), limits)?;
-    let (far, _) = listener.accept()?;
-    let begun = Instant::now(&rt)?;
-    let written = write_all(&mut near, &bytes);
-    let waited = begun.elapsed(&rt)?.as_millis();
+    let (mut near, far) = dialled(&rt, &mut dialer, limits)?;
+    let (written, waited) = timed_write(&rt, &mut near, &bytes)?;
     dialer.hang_up(&rt, near);
     assert!(rt;
         written == Err(WireFault::Timeout) && waited >= 49,
@@ -85,42 +112,69 @@ const ANSWERS: &[(usize, bool)] = &[
     (20, false),
 ];
 
+// How many bytes the server is asked with, which then answers so many and ends, before the first read or behind it; and how many this read
+// gives.
+fn answered(
+    near: &mut impl Wire,
+    far: TcpStream,
+    count: usize,
+    ends_first: bool,
+) -> Result<(usize, usize), WireFault> {
+    let mut far = SocketWire::new(far);
+    let mut buffer = [0; 8];
+    write_all(near, b"hi")?;
+    let asked = far.read(&mut buffer)?;
+    write_all(&mut far, &[7; 20][..count.min(20)])?;
+    let got = if ends_first {
+        0
+    } else {
+        near.read(&mut buffer)?
+    };
+    Ok((asked, got))
+}
+
+// How many bytes more come, and what the last of at most eight reads gives: it is the first that gives none.
+fn read_on(wire: &mut impl Wire) -> Result<(usize, Option<usize>), WireFault> {
+    let mut buffer = [0; 8];
+    let mut got: usize = 0;
+    let mut last = None;
+    for _ in 0..8 {
+        let read = wire.read(&mut buffer)?;
+        got = read.saturating_add(got);
+        last = Some(read);
+        if read == 0 {
+            break;
+        }
+    }
+    Ok((got, last))
+}
+
 // All that a server answers is read, and then its end, wherever the reads and its end fall.
 #[test]
 fn an_answer_is_read_to_its_end(rt: HostRuntime) -> Result<(), Fail> {
+    let limits = Limits {
+        connect: None,
+        transfer: Some(5000),
+    };
     for (count, ends_first) in ANSWERS {
-        let listener = TcpListener::bind(&rt, "127.0.0.1:0")?;
-        let limits = Limits {
-            connect: None,
-            transfer: Some(5000),
-        };
         let mut dialer = SocketDialer::new();
-        let mut near = dialer.dial(&rt, endpoint(listener.local_addr()?.port()), limits)?;
-        let mut far = SocketWire::new(listener.accept()?.0);
-        let mut buffer = [0; 8];
-        write_all(&mut near, b"hi")?;
-        let asked = far.read(&mut buffer)?;
-        write_all(&mut far, &[7; 20][..*count])?;
-        let mut got = 0;
-        if !*ends_first {
-            got = near.read(&mut buffer)?;
-        }
-        drop(far);
-        let mut last = None;
-        for _ in 0..8 {
-            let read = near.read(&mut buffer)?;
-            got = read.saturating_add(got);
-            last = Some(read);
-            if read == 0 {
-                break;
-            }
-        }
+        let (mut near, far) = dialled(&rt, &mut dialer, limits)?;
+        let (asked, first) = answered(&mut near, far, *count, *ends_first)?;
+        let (more, last) = read_on(&mut near)?;
         dialer.hang_up(&rt, near);
+        let got = first.saturating_add(more);
         assert!(rt;
             (asked, got, last) == (2, *count, Some(0)),
             "{count}, {ends_first}: {got}, {last:?}"
         );
     }
+    Ok(())
+}
+
+// The server ends, and the connection sees it.
+fn end(near: &mut impl Wire, far: &TcpStream) -> Result<(), Fail> {
+    far.shutdown(Shutdown::Write)?;
+    near.read(&mut [0; 2])?;
     Ok(())
 }
 
@@ -137,21 +191,17 @@ fn a_server_that_has_ended_is_closed_last(rt: HostRuntime) -> Result<(), Fail> {
         (false, Err(WireFault::Broken), Ok(0)),
     ];
     for (ends, given_back, closed) in cases {
-        let listener = TcpListener::bind(&rt, "127.0.0.1:0")?;
         let mut dialer = SocketDialer::new();
-        let mut near = dialer.dial(&rt, endpoint(listener.local_addr()?.port()), limits)?;
-        let (far, _) = listener.accept()?;
+        let (mut near, far) = dialled(&rt, &mut dialer, limits)?;
         far.set_read_timeout(Some(Duration::from_millis(50)))?;
-        let mut buffer = [0; 2];
         if *ends {
-            far.shutdown(Shutdown::Write)?;
-            near.read(&mut buffer)?;
+            end(&mut near, &far)?;
         }
         let mut far = SocketWire::new(far);
         dialer.hang_up(&rt, near);
-        let before = far.read(&mut buffer);
+        let before = far.read(&mut [0; 2]);
         dialer.close_last();
-        let after = far.read(&mut buffer);
+        let after = far.read(&mut [0; 2]);
         assert!(rt;
             before == *given_back && after == *closed,
             "{ends}: {before:?}, {after:?}"

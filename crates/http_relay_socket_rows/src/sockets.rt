@@ -41,15 +41,21 @@ fn bytes_come_in_turn_until_the_deadline(rt: HostRuntime) -> Result<(), Fail> {
     Ok(())
 }
 
-// A peer that takes nothing fails a write at its limit, and a peer that says nothing a read. A part of the bytes went out.
-#[test]
-fn limits_hold_for_reads_and_writes(rt: HostRuntime) -> Result<(), Fail> {
-    let (near, far) = pair(&rt)?;
+// Both ends of one connection, of which the near one's reads and writes have limits.
+fn limited_pair(rt: &HostRuntime) -> Result<(TcpStream, TcpStream), Fail> {
+    let (near, far) = pair(rt)?;
     let limits = StreamLimits {
         read: Some(50),
         write: Some(50),
     };
     limits.set(&near)?;
+    Ok((near, far))
+}
+
+// A peer that takes nothing fails a write at its limit, and a peer that says nothing a read. A part of the bytes went out.
+#[test]
+fn limits_hold_for_reads_and_writes(rt: HostRuntime) -> Result<(), Fail> {
+    let (near, far) = limited_pair(&rt)?;
     let bytes = Vec::from_elem(rt.alloc(), 7, 20_000_000)?;
     let mut wire = SocketWire::new(&near);
     let written = write_all(&mut wire, &bytes);
@@ -59,30 +65,37 @@ fn limits_hold_for_reads_and_writes(rt: HostRuntime) -> Result<(), Fail> {
     Ok(())
 }
 
+// How a read and a write of all these bytes end, and how many milliseconds both took.
+fn timed(
+    rt: &HostRuntime,
+    wire: &mut impl Wire,
+    bytes: &[u8],
+) -> Result<(Result<usize, WireFault>, Result<(), WireFault>, u128), Fail> {
+    let begun = Instant::now(rt)?;
+    let read = wire.read(&mut [0; 8]);
+    let written = write_all(wire, bytes);
+    Ok((read, written, begun.elapsed(rt)?.as_millis()))
+}
+
+// Whether a read fails at once, though it might wait long.
+fn fails_at_once(rt: &HostRuntime, mut stream: TcpStream) -> Result<bool, Fail> {
+    stream.set_read_timeout(Some(Duration::from_millis(5000)))?;
+    let begun = Instant::now(rt)?;
+    let is_failed = stream.read(&mut [0; 8]).is_err();
+    Ok(is_failed && begun.elapsed(rt)?.as_millis() < 1000)
+}
+
 // A stream that came set not to block waits as long as its limits say, and at its end doesn't block.
 #[test]
 fn an_eager_stream_has_its_limits(rt: HostRuntime) -> Result<(), Fail> {
-    let (near, far) = pair(&rt)?;
-    let limits = StreamLimits {
-        read: Some(50),
-        write: Some(50),
-    };
-    limits.set(&near)?;
+    let (near, far) = limited_pair(&rt)?;
     near.set_nonblocking(true)?;
     let bytes = Vec::from_elem(rt.alloc(), 7, 20_000_000)?;
-    let begun = Instant::now(&rt)?;
     let mut stream = EagerStream::new(near);
-    let mut wire = SocketWire::new(&mut stream);
-    let read = wire.read(&mut [0; 8]);
-    let written = write_all(&mut wire, &bytes);
-    let waited = begun.elapsed(&rt)?.as_millis();
-    let mut near = stream.into_stream()?;
-    near.set_read_timeout(Some(Duration::from_millis(5000)))?;
-    let begun = Instant::now(&rt)?;
-    let last = near.read(&mut [0; 8]).is_err();
-    let at_once = begun.elapsed(&rt)?.as_millis() < 1000;
+    let (read, written, waited) = timed(&rt, &mut SocketWire::new(&mut stream), &bytes)?;
+    let ends_at_once = fails_at_once(&rt, stream.into_stream()?)?;
     assert!(rt;
-        read == Err(TIMEOUT) && written == Err(TIMEOUT) && waited >= 99 && last && at_once,
+        read == Err(TIMEOUT) && written == Err(TIMEOUT) && waited >= 99 && ends_at_once,
         "{waited}"
     );
     drop(far);
