@@ -1,8 +1,8 @@
 //! Desks are closed, and their journals judged.
 ghost use Rattle.std.specs.Prelude.{◌≡◌};
 
-use crate::calls::request_once;
-use crate::farms::{Hasher, desk_of, farm};
+use crate::thread_calls::request_once;
+use crate::thread_farms::{Hasher, desk_of, farm};
 use lb_desk_model::{Backend, Entry, ServedAs};
 use lb_desk_ports::{Opening, Shut};
 use lb_desk_shared::{CloseFault, Closing, Naming, SharedDesk};

@@ -1,76 +1,74 @@
-//! The backend of the rows, and desks for it.
+//! The backend of seats: servers a and b, and a table of ten pins.
 ghost use Rattle.std.specs.Prelude.{◌≡◌, Ok, IfOk};
 ghost use Rattle.lb_types.specs.Names.{name_of};
 
-use lb_desk_model::{Backend, BackendServer, Entry, Request, RuleList};
-use lb_desk_shared::{Naming, SharedDesk};
-use lb_desk_step::Desk;
-use lb_desk_tie::Opened;
-use lb_types::{Balance, Moment, Name, TableSettings};
+use lb_desk_model::{Backend, BackendServer, Request, RuleList};
+use lb_types::{Balance, Moment, Name, ServerId, TableSettings};
 use pin_set::{KeyText, PinKey};
-use server_state::{AdminState, ServerSettings};
+use server_state::{AdminState, CheckSettings, ServerSettings};
 use std::alloc::{AllocError, Global};
-use std::hash::{BuildHasherDefault, FoldHasher};
 use std::test::Fail;
 
-pub(crate) type Hasher = BuildHasherDefault<FoldHasher>;
+pub(crate) const A: u8 = 0;
 
-/// A server that is ready, isn't checked, and has room for five pins.
-const READY: ServerSettings = ServerSettings {
-    admin: AdminState::Ready,
-    weight: 1,
-    max_connections: 0,
-    max_pins: 5,
-    backup: false,
-    check: None,
-};
+pub(crate) const B: u8 = 1;
 
-/// A backend of servers a and b, with a table of ten pins.
-pub(crate) fn farm(alloc: Global) -> Result<Backend, Fail> {
-    let a = named(b"a")?;
-    let b = named(b"b")?;
+pub(crate) fn server(at: u8) -> ServerId {
+    ServerId::new(at % 128)
+}
+
+/// Servers a and b, which serve in turn: a for five pins, checked with two successes and three failures, and b for as many, with one
+/// connection and no checks.
+pub(crate) fn two_servers(alloc: Global) -> Result<Backend, Fail> {
+    let checked = Some(CheckSettings { rise: 2, fall: 3 });
+    let a = named(b"a", 0, checked)?;
+    let b = named(b"b", 1, None)?;
     let servers = vec![in alloc; a, b]?;
-    let table = TableSettings {
+    let table = table();
+    Ok(Backend::new(Balance::RoundRobin, false, table, servers))
+}
+
+/// A table of ten pins, which lets none go for want of use.
+fn table() -> Option<TableSettings> {
+    Some(TableSettings {
         size: 10,
         expire: None,
         no_purge: false,
-    };
-    Ok(Backend::new(Balance::RoundRobin, false, Some(table), servers))
+    })
 }
 
-fn named(name: &[u8]) -> Result<BackendServer, Fail>
+fn named(
+    name: &[u8],
+    max_connections: u32,
+    check: Option<CheckSettings>,
+) -> Result<BackendServer, Fail>
     ensures { IfOk result (λ server. name_of name.now ≡ Ok server.name) }
 {
     let name = Name::read(name)?;
     Ok(BackendServer {
         name,
-        settings: READY,
+        settings: ServerSettings {
+            admin: AdminState::Ready,
+            weight: 1,
+            max_connections,
+            max_pins: 5,
+            backup: false,
+            check,
+        },
     })
 }
 
-/// The desk of this number, whose journal keeps a thousand entries.
-pub(crate) fn desk_of<B: Naming>(
-    alloc: Global,
-    opened: Opened<Entry>,
-    number: u64,
-    backend: &Backend,
-) -> Result<SharedDesk<Hasher, B>, Fail>
-    requires table { opened ≡ B.table_of number }
-    requires opening { B.opening number ≡ backend.now }
-    ensures { IfOk result (λ desk. desk ≡ number) }
-{
-    let hasher = BuildHasherDefault::<FoldHasher>::new();
-    let desk = Desk::open(alloc, backend, 1000, hasher)?;
-    Ok(SharedDesk::of(opened, number, desk))
-}
-
 /// A request with this key that no rule matches, whose pin costs 1 to move.
-pub(crate) fn request(alloc: Global, key: &'static str) -> Result<Request, AllocError> {
+pub(crate) fn request(
+    alloc: Global,
+    moment: u64,
+    key: &'static str,
+) -> Result<Request, AllocError> {
     let key = KeyText::copied_from(alloc, key.as_bytes())?;
     Ok(Request {
         key: Some(PinKey::Text(key)),
         rules: RuleList::new(Vec::new(alloc)),
         cost: 1,
-        moment: Moment::from_millis(0),
+        moment: Moment::from_millis(moment),
     })
 }

@@ -1,6 +1,8 @@
-//! Worked rows of the desk of many threads: what several threads did at it is done again by one, and must be answered the same.
+//! Worked rows of the desk of many threads: what several threads did at it is done again by one, and must be answered the same; and of
+//! seats at such a desk, a planner that clients come in beside among them. And rows of backends at the ends of their ranges, each played
+//! by the plain machine and by the running desk, side by side.
 //!
-//! Tests alone. Start at `threads`.
+//! Tests alone, of `lb_desk_shared`, `lb_desk_seat`, `lb_desk_planner` and `lb_desk_step`. Start at `threads`, `calls` and `edges`.
 #![tactic(auto)]
 
 #[cfg(test)]
@@ -8,6 +10,22 @@ mod calls;
 #[cfg(test)]
 mod closings;
 #[cfg(test)]
+mod desks;
+#[cfg(test)]
+mod edge_row;
+#[cfg(test)]
+mod edges;
+#[cfg(test)]
 mod farms;
+#[cfg(test)]
+mod gates;
+#[cfg(test)]
+mod kinds;
+#[cfg(test)]
+mod telling;
+#[cfg(test)]
+mod thread_calls;
+#[cfg(test)]
+mod thread_farms;
 #[cfg(test)]
 mod threads;

@@ -1,9 +1,9 @@
 //! Two threads at two desks.
 ghost use Rattle.std.specs.Prelude.{◌≡◌};
 
-use crate::calls::{day, request_once};
 use crate::closings::{close_with, judge};
-use crate::farms::{Hasher, desk_of, farm};
+use crate::thread_calls::{day, request_once};
+use crate::thread_farms::{Hasher, desk_of, farm};
 use lb_desk_model::{Backend, Entry, ServedAs};
 use lb_desk_shared::{Naming, SharedDesk};
 use lb_desk_tie::{Opened, Pass};

@@ -2,8 +2,8 @@ use Rattle.std.proofs.Common.{false, List, sym, subst}
 use Rattle.lb_desk_model.specs.declared.backend.BackendServer.{BackendServer}
 use Rattle.lb_types.specs.declared.balance.Balance.TheVariants.{RoundRobin}
 use Rattle.lb_desk_model.specs.Backends.{IsBackend, backend_of_parts}
-use Rattle.lb_desk_seat_rows.proofs.Named.{two_make_a_backend}
-use Rattle.lb_desk_seat_rows.proofs.farms.two_servers.Goals as goal
+use Rattle.lb_desk_shared_rows.proofs.Named.{two_make_a_backend}
+use Rattle.lb_desk_shared_rows.proofs.farms.two_servers.Goals as goal
 
 pub new-requires : goal.new-requires
 new-requires c =

@@ -1,8 +1,8 @@
-//! The rows.
+//! Rows of backends at the ends of their ranges.
 
-use crate::row::Ask::{Expire, Install, Serve, ServeMany, Snapshot};
-use crate::row::Said::{Expired, Installed, Kept, Loose, Made, Refused, Sheet};
-use crate::row::{Ask, Row, Said, play};
+use crate::edge_row::Ask::{Expire, Install, Serve, ServeMany, Snapshot};
+use crate::edge_row::Said::{Expired, Installed, Kept, Loose, Made, Refused, Sheet};
+use crate::edge_row::{Ask, Row, Said, play};
 use lb_desk_model::Refusal;
 use std::alloc::Global;
 use std::test::Fail;

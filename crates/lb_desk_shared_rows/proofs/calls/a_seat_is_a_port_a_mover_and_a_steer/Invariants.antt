@@ -1,4 +1,4 @@
-use Rattle.lb_desk_seat_rows.proofs.calls.a_seat_is_a_port_a_mover_and_a_steer.Given as goal
+use Rattle.lb_desk_shared_rows.proofs.calls.a_seat_is_a_port_a_mover_and_a_steer.Given as goal
 
 abbrev pub ghosts-calls-N-Tables : goal.ghosts-calls-N-Tables
 ghosts-calls-N-Tables g a = record { table_of = λ _. a.opened }

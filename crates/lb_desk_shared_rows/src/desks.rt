@@ -1,4 +1,4 @@
-//! A shared desk of the tests' backend, from its opening on.
+//! A shared desk of the seats' backend, from its opening on.
 ghost use Rattle.std.specs.Prelude.{◌≡◌, IfOk};
 
 use lb_desk_model::{Backend, Entry};

@@ -1,4 +1,4 @@
-use Rattle.lb_desk_seat_rows.proofs.telling.a_planner_that_is_told_lets_a_request_in.Given as goal
+use Rattle.lb_desk_shared_rows.proofs.telling.a_planner_that_is_told_lets_a_request_in.Given as goal
 
 abbrev pub ghosts-tell-N-Tables : goal.ghosts-tell-N-Tables
 ghosts-tell-N-Tables g a = record { table_of = λ _. a.opened }

@@ -1,4 +1,4 @@
-//! What a row is, and how it is played.
+//! What a row at an end of a range is, and how it is played.
 
 use dual_cert::read_plan;
 use lb_desk_model::{Event, Refusal, Reply, Request, RuleList, ServedAs, Shared};

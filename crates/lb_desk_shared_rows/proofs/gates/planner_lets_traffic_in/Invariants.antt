@@ -1,4 +1,4 @@
-use Rattle.lb_desk_seat_rows.proofs.gates.planner_lets_traffic_in.Given as goal
+use Rattle.lb_desk_shared_rows.proofs.gates.planner_lets_traffic_in.Given as goal
 
 abbrev pub ghosts-meet-N-Tables : goal.ghosts-meet-N-Tables
 ghosts-meet-N-Tables g a = record { table_of = λ _. a.opened }
