@@ -22,18 +22,18 @@ const PAUSE: u64 = 20;
 pub type Sockets = PhantomData<(TcpListener, TcpStream)>;
 
 /// The address of this port on this machine.
-pub fn local(port: u16) -> SocketAddrV4 {
+pub(crate) fn local(port: u16) -> SocketAddrV4 {
     SocketAddrV4::new(Ipv4Addr::LOCALHOST, port)
 }
 
 /// A port that was free just now.
-pub fn free_port<R: Host>(rt: &R) -> Result<u16, Fail> {
+pub(crate) fn free_port<R: Host>(rt: &R) -> Result<u16, Fail> {
     let listener = listen(rt, local(0))?;
     Ok(listener.local_addr()?.port())
 }
 
 /// An origin that answers each request with this text, until it is told to end.
-pub fn originate<R: Host>(
+pub(crate) fn originate<R: Host>(
     rt: &R,
     listener: TcpListener,
     text: &[u8],
@@ -53,12 +53,22 @@ pub fn originate<R: Host>(
 }
 
 /// What comes back for these bytes at this port.
-pub fn ask<R: Host>(rt: &R, alloc: Global, port: u16, bytes: &[u8]) -> Result<Vec<u8>, Fail> {
+pub(crate) fn ask<R: Host>(
+    rt: &R,
+    alloc: Global,
+    port: u16,
+    bytes: &[u8],
+) -> Result<Vec<u8>, Fail> {
     Ok(answer_to(rt, alloc, port, bytes).ok_or("nobody answers")?)
 }
 
 /// What comes back for these bytes at this port, if somebody listens there and answers in time.
-pub fn answer_to<R: Host>(rt: &R, alloc: Global, port: u16, bytes: &[u8]) -> Option<Vec<u8>> {
+pub(crate) fn answer_to<R: Host>(
+    rt: &R,
+    alloc: Global,
+    port: u16,
+    bytes: &[u8],
+) -> Option<Vec<u8>> {
     let mut stream = connect(rt, port)?;
     stream.write_all(bytes).ok()?;
     let mut answer = Vec::new(alloc);
