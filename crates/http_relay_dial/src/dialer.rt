@@ -1,6 +1,6 @@
 ghost use Rattle.std.specs.Prelude.{◌≡◌, ◌∷◌, [], ℕ, List, Option, IfOk};
 ghost use Rattle.lb_desk_ports.specs.Calls.{Grows};
-ghost use Rattle.http_relay_dial.specs.Dials.{Dial, Talk, IsFresh, dial_of, talk_of, after_dial};
+ghost use Rattle.http_relay_dial.specs.Dials.{Dial, Talk, HasTaken, dial_of, talk_of, after_dial};
 
 use crate::{Endpoint, Limits};
 use http_relay_wire::{Wire, WireFault};
@@ -19,19 +19,21 @@ pub trait Dialer<R> {
     /// How many dials failed. A count that has reached 2^64 - 1 stays there.
     ghost failures: { Self → ℕ };
 
-    /// Connects to the endpoint. A connection is fresh: nothing was read or written, and nothing has failed. The fault says
-    /// whether the limit ran out.
+    /// Connects to the endpoint, and writes a beginning of these bytes as soon as that can be. It answers how many the connection has
+    /// taken, which may be none; nothing else was written, nothing was read, and nothing has failed. A connection that breaks
+    /// before it takes any is none. The fault says whether the limit to connect ran out.
     fn dial(
         &mut self,
         rt: &R,
         endpoint: Endpoint,
         limits: Limits,
-    ) -> Result<Self::Connection, WireFault>
+        first: &[u8],
+    ) -> Result<(Self::Connection, usize), WireFault>
         ensures dials { Grows (dials self.old) (dials self.new) (dial_of endpoint limits Self.Connection.reading result ∷ []) }
         ensures talks { talks self.new ≡ talks self.old }
         ensures failures { failures self.new ≡ after_dial result (failures self.old) }
-        ensures fresh { IfOk result (λ connection. IsFresh
-            (talk_of Self.Connection.written Self.Connection.reading Self.Connection.faults connection)) };
+        ensures taken { IfOk result (λ dialled. HasTaken first.now dialled.1
+            (talk_of Self.Connection.written Self.Connection.reading Self.Connection.faults dialled.0)) };
 
     /// Ends the connection.
     fn hang_up(&mut self, rt: &R, connection: Self::Connection)

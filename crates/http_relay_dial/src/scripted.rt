@@ -1,7 +1,7 @@
-ghost use Rattle.std.specs.Prelude.{◌≡◌, ◌∷◌, Some, [], map};
+ghost use Rattle.std.specs.Prelude.{◌≡◌, ◌∷◌, Some, [], map, false};
 ghost use Rattle.std.specs.Option.{option_map};
 ghost use Rattle.lb_desk_ports.specs.Calls.{Grows};
-ghost use Rattle.http_relay_dial.specs.Dials.{talk_of};
+ghost use Rattle.http_relay_dial.specs.Dials.{talk_of, HasTaken};
 ghost use Rattle.http_relay_dial.specs.Scripted.{dial_recorded};
 
 use crate::dialer::Dialer;
@@ -20,8 +20,8 @@ pub struct ScriptedDial<'a> {
     pub answer: DialScript<'a>,
 }
 
-/// A dialer over memory, for tests. It records its dials, keeps the wires that were given back, and loses a record where memory
-/// for it is short.
+/// A dialer over memory, for tests. A wire takes of the bytes that it is dialled with what its first write would take. The dialer records
+/// its dials, keeps the wires that were given back, and loses a record where memory for it is short.
 #[derive(Debug, Drop)]
 pub struct ScriptedDialer<'a> {
     alloc: Global,
@@ -94,7 +94,8 @@ impl<'a, R> Dialer<R> for ScriptedDialer<'a> {
         _rt: &R,
         endpoint: Endpoint,
         limits: Limits,
-    ) -> Result<ScriptedWire<'a>, WireFault> {
+        first: &[u8],
+    ) -> Result<(ScriptedWire<'a>, usize), WireFault> {
         let answer = self.next_answer();
         record(
             &mut self.dials,
@@ -105,7 +106,7 @@ impl<'a, R> Dialer<R> for ScriptedDialer<'a> {
             },
         );
         match answer {
-            Ok((bytes, script)) => Ok(ScriptedWire::new(self.alloc, bytes, script)),
+            Ok((bytes, script)) => Ok(begun(self.alloc, bytes, script, first)),
             Err(fault) => {
                 self.failures = self.failures.saturating_add(1);
                 Err(fault)
@@ -115,6 +116,27 @@ impl<'a, R> Dialer<R> for ScriptedDialer<'a> {
 
     fn hang_up(&mut self, _rt: &R, connection: ScriptedWire<'a>) {
         record(&mut self.talks, connection);
+    }
+}
+
+// A wire that has taken of the first bytes what a write takes, or nothing where that write would fail.
+fn begun<'a>(
+    alloc: Global,
+    bytes: &'a [u8],
+    script: Script<'a>,
+    first: &[u8],
+) -> (ScriptedWire<'a>, usize)
+    ensures reading { ⟦<ScriptedWire<'a> as Wire>⟧.reading result.0 ≡ record { unread = Some bytes.now; left = script.entry.reads; ended = false } }
+    ensures taken { HasTaken first.now result.1 (talk_of ⟦<ScriptedWire<'a> as Wire>⟧.written ⟦<ScriptedWire<'a> as Wire>⟧.reading
+        ⟦<ScriptedWire<'a> as Wire>⟧.faults result.0) }
+{
+    let mut wire = ScriptedWire::new(alloc, bytes, script);
+    if first.is_empty() {
+        return (wire, 0);
+    }
+    match wire.write(first) {
+        Ok(count) => (wire, count),
+        Err(_) => (ScriptedWire::new(alloc, bytes, script), 0),
     }
 }
 

@@ -23,7 +23,7 @@ use Rattle.http_relay_exchange.specs.Exchanges.{wrote, FailsToWrite}
 abbrev pub talk_with : Option (List ℕ) → Reading → FaultCounts → Talk
 talk_with written reading faults = record { written = written; reading = reading; faults = faults }
 
-talk_same : (a b : Option (List ℕ)) (c d : Reading) (e f : FaultCounts) → a ≡ b → c ≡ d → e ≡ f → talk_with a c e ≡ talk_with b d f
+pub talk_same : (a b : Option (List ℕ)) (c d : Reading) (e f : FaultCounts) → a ≡ b → c ≡ d → e ≡ f → talk_with a c e ≡ talk_with b d f
 talk_same a b c d e f written reading faults =
     ap (λ x. talk_with x c e) written ∙ ap (λ x. talk_with b x e) reading ∙ ap (λ x. talk_with b d x) faults
 

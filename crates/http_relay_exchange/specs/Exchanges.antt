@@ -1,6 +1,6 @@
 -- One request and its response: RFC 9112, section 6 (bodies), and RFC 9110, section 10.1.1 (`100 Continue`). Our own: the response
 -- is read only after the whole request was sent.
-use Rattle.std.specs.Prelude.{◌≡◌, ℕ, Bool, true, false, List, Option, Result, Ok, Err, cond}
+use Rattle.std.specs.Prelude.{◌≡◌, ◌≤◌, ℕ, true, List, length, take, Option, Result, Ok, Err, cond}
 use Rattle.std.specs.Io.KnownBytes.{append_known}
 use Rattle.http_relay_wire.specs.Faults.{after_write_fault}
 use Rattle.http_relay_wire.specs.Wires.{AppendsBeginning}
@@ -12,7 +12,7 @@ use Rattle.http_relay_body.specs.Copies as response
 use Rattle.http_relay_body.specs.declared.fault.BodyFault.{BodyFault}
 use Rattle.http_relay_body.specs.declared.response.CopyFault.{CopyFault}
 use Rattle.http_relay_dial.specs.Dials.{Talk}
-use Rattle.http_relay_exchange.specs.Requests.{OutgoingView}
+use Rattle.http_relay_exchange.specs.Requests.{OutgoingView, opening}
 use Rattle.http_relay_exchange.specs.declared.fault.ExchangeFault.{ExchangeFault}
 use Rattle.http_relay_exchange.specs.declared.fault.ExchangeFault.TheVariants.{Send, Copy}
 use Rattle.http_relay_exchange.specs.declared.fault.SendFault.{SendFault}
@@ -21,6 +21,10 @@ use Rattle.http_relay_exchange.specs.declared.fault.SendFault.TheVariants.{Conti
 -- the connection when these bytes were written to it
 abbrev pub wrote : Talk → List ℕ → Talk
 wrote talk bytes = record talk { written = append_known talk.written bytes }
+
+-- the connection has taken so many bytes of the request's opening since it stood so
+abbrev pub Began : OutgoingView → ℕ → Talk → Talk → Type 0
+Began request taken before now = (taken ≤ length (opening request)) × (now ≡ wrote before (take taken (opening request)))
 
 -- a write of these bytes failed: a beginning of them went out, and one failure is counted
 abbrev pub FailsToWrite : List ℕ → WireFault → Talk → Talk → Type 0

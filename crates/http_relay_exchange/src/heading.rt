@@ -1,5 +1,6 @@
-ghost use Rattle.std.specs.Prelude.{◌≡◌, ◌+◌, ◌≤◌, ◌++◌, length, take, drop};
-ghost use Rattle.http_relay_dial.specs.Dials.{talk_of};
+ghost use Rattle.std.specs.Prelude.{◌≡◌, ◌+◌, ◌≤◌, ◌++◌, [], length, take, drop, IfOk};
+ghost use Rattle.http_relay_dial.specs.Dials.{Talk, talk_of};
+ghost use Rattle.http_relay_exchange.specs.Exchanges.{Began};
 ghost use Rattle.http_relay_exchange.specs.Headings.{SendsHead, SendsBoth};
 
 use crate::{Outgoing, SendFault};
@@ -10,28 +11,41 @@ use http_relay_wire::{Wire, write_all};
 /// 16384 bytes, and for that of a shorter one with what came behind it in one room of 16384.
 const ROOM: usize = 17408;
 
-/// Sends the head, and in the same writes the front of the body that came with the client's head, as much of it as the room has place
-/// for. It answers what that front was. Where the server takes all bytes at once that is one write. A front costs a copy of it and
+/// Sends the head, of which so many bytes may have gone out before, and in the same writes the front of the body that came with the client's
+/// head, as much of it as the room has place for. It answers what that front was. Where the server takes all bytes at once that is one write. A front costs a copy of it and
 /// of the head, and the room; where there is none the head is written from where it stands.
 pub(crate) fn send_head<S: Wire>(
     request: &Outgoing<'_>,
+    taken: usize,
     server: &mut S,
 ) -> Result<BodyFront, SendFault>
-    ensures { SendsHead request.now
-        (talk_of S.written S.reading S.faults server.old) (talk_of S.written S.reading S.faults server.new) result }
+    ensures within { IfOk result (λ front. front.len ≤ length request.now.behind) }
+    ensures sent { (before : Talk) → Began request.now taken before (talk_of S.written S.reading S.faults server.old)
+        → SendsHead request.now before (talk_of S.written S.reading S.faults server.new) result }
 {
     let head = request.head();
     let behind = request.behind();
     let most = behind.len().min(ROOM.saturating_sub(head.len()));
     let front = BodyFront::of(request.kind(), &behind[..most]);
     if front.len == 0 {
-        return match write_all(server, head) {
-            Ok(()) => Ok(front),
-            Err(fault) => Err(SendFault::Head(fault)),
-        };
+        send_rest(request, taken, server)?;
+        return Ok(front);
     }
     send_both(head, &behind[..front.len], server)?;
     Ok(front)
+}
+
+/// Sends what is left of a head of whose opening so many bytes were taken.
+fn send_rest<S: Wire>(request: &Outgoing<'_>, taken: usize, server: &mut S) -> Result<(), SendFault>
+    ensures { (before : Talk) → Began request.now taken before (talk_of S.written S.reading S.faults server.old)
+        → SendsBoth request.now.head [] before (talk_of S.written S.reading S.faults server.new) result }
+{
+    let head = request.head();
+    let taken = taken.min(request.opening().len()).min(head.len());
+    match write_all(server, &head[taken..]) {
+        Ok(()) => Ok(()),
+        Err(fault) => Err(SendFault::Head(fault)),
+    }
 }
 
 /// Sends a head and the front of its body, in the same writes.

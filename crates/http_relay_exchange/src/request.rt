@@ -1,4 +1,5 @@
 ghost use Rattle.std.specs.Prelude.{◌≡◌};
+ghost use Rattle.http_relay_exchange.specs.Requests.{opening};
 
 use http_relay_forward::BodyKind;
 use std::marker::Model;
@@ -37,6 +38,17 @@ impl<'a> Outgoing<'a> {
             behind,
             expects_continue,
         }
+    }
+
+    /// What the server may get with the dial, before `exchange`: the head; but nothing where the client is told to go on before that, or where
+    /// bytes of a body came with the head, which go out in the same writes.
+    pub fn opening(&self) -> &'a [u8]
+        ensures { result.now ≡ opening self.now }
+    {
+        if self.expects_continue || !self.behind.is_empty() {
+            return &[];
+        }
+        self.head
     }
 
     /// The head that the server gets.

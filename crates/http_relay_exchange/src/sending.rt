@@ -1,6 +1,6 @@
 ghost use Rattle.std.specs.Prelude.{◌≡◌};
-ghost use Rattle.http_relay_dial.specs.Dials.{talk_of};
-ghost use Rattle.http_relay_exchange.specs.Exchanges.{Invites, Sent};
+ghost use Rattle.http_relay_dial.specs.Dials.{Talk, talk_of};
+ghost use Rattle.http_relay_exchange.specs.Exchanges.{Began, Invites, Sent};
 
 use crate::heading::send_head;
 use crate::{Outgoing, SendFault};
@@ -8,22 +8,24 @@ use http_relay_body::send_body;
 use http_relay_forward::continue_text;
 use http_relay_wire::{Wire, WireFault, write_all};
 
-/// Sends the request: the client is told to go on where it waits for that, and then head and body go to the server. What of the
+/// Sends the request, of whose opening so many bytes were taken: the client is told to go on where it waits for that, and then head and body go to the server. What of the
 /// body came with the client's head goes out with the head: of a body of so many bytes all of it, and of a chunked one the chunks
 /// that came whole.
 pub(crate) fn send_request<C: Wire, S: Wire>(
     request: &Outgoing<'_>,
+    taken: usize,
     client: &mut C,
     server: &mut S,
 ) -> Result<(), SendFault>
-    ensures { Sent request.now
+    ensures { (before : Talk) → Began request.now taken before (talk_of S.written S.reading S.faults server.old)
+        → Sent request.now
         (talk_of C.written C.reading C.faults client.old) (talk_of C.written C.reading C.faults client.new)
-        (talk_of S.written S.reading S.faults server.old) (talk_of S.written S.reading S.faults server.new) result }
+        before (talk_of S.written S.reading S.faults server.new) result }
 {
     if let Err(fault) = invite(request, client) {
         return Err(SendFault::Continue(fault));
     }
-    let front = send_head(request, server)?;
+    let front = send_head(request, taken, server)?;
     let behind = &request.behind()[front.len..];
     match send_body(front.rest, behind, client, server) {
         Ok(()) => Ok(()),

@@ -1,7 +1,7 @@
 use http_relay_body::BodyFault;
 use http_relay_exchange::{ExchangeFault, Outgoing, SendFault, exchange};
 use http_relay_forward::BodyKind;
-use http_relay_wire::{Script, ScriptedWire, WireFault};
+use http_relay_wire::{Script, ScriptedWire, WireFault, write_all};
 use std::alloc::Global;
 
 const HEAD: &[u8] = b"POST /e HTTP/1.1\r\nConnection: close\r\n\r\n";
@@ -67,10 +67,10 @@ fn a_head_and_what_came_of_its_body_go_out_in_one_write(rt: HostRuntime) {
         let request = Outgoing::new(HEAD, *kind, behind, false);
         let mut client = ScriptedWire::new(rt.alloc(), later, Script::SMOOTH);
         let mut none_taken = server(rt.alloc(), usize::MAX, 0);
-        let none = exchange(&request, &mut client, &mut none_taken);
+        let none = exchange(&request, 0, &mut client, &mut none_taken);
         let untouched = client.unread() == *later;
         let mut one_taken = server(rt.alloc(), usize::MAX, 1);
-        let _one = exchange(&request, &mut client, &mut one_taken);
+        let _one = exchange(&request, 0, &mut client, &mut one_taken);
         assert!(rt;
             none == Err(ExchangeFault::Send(SendFault::Head(WireFault::Timeout)))
                 && none_taken.written().is_empty()
@@ -104,9 +104,9 @@ fn a_write_may_end_anywhere_in_head_and_body(rt: HostRuntime) {
         for taken in 1..=all {
             let mut client = ScriptedWire::new(rt.alloc(), b"", Script::SMOOTH);
             let mut slow = server(rt.alloc(), taken, u64::MAX);
-            let whole = exchange(&request, &mut client, &mut slow);
+            let whole = exchange(&request, 0, &mut client, &mut slow);
             let mut failing = server(rt.alloc(), taken, 1);
-            let cut = exchange(&request, &mut client, &mut failing);
+            let cut = exchange(&request, 0, &mut client, &mut failing);
             let cause = match cut {
                 Ok(_) => None,
                 Err(ExchangeFault::Send(fault)) => Some(fault),
@@ -122,4 +122,52 @@ fn a_write_may_end_anywhere_in_head_and_body(rt: HostRuntime) {
             );
         }
     }
+}
+
+// The kind of the body, what came behind the head, what comes later, whether the client waits to be told to go on, what of the request may go
+// out with the dial, and its body.
+type OpeningRow = (
+    BodyKind,
+    &'static [u8],
+    &'static [u8],
+    bool,
+    &'static [u8],
+    &'static [u8],
+);
+
+const OPENINGS: &[OpeningRow] = &[
+    (BodyKind::Empty, b"", b"", false, HEAD, b""),
+    (BodyKind::Length(2), b"", b"hi", false, HEAD, b"hi"),
+    (
+        BodyKind::Chunked,
+        b"",
+        b"0\r\n\r\n",
+        false,
+        HEAD,
+        b"0\r\n\r\n",
+    ),
+    (BodyKind::Length(2), b"hi", b"", false, b"", b"hi"),
+    (BodyKind::Empty, b"GET", b"", false, b"", b""),
+    (BodyKind::Length(2), b"", b"hi", true, b"", b"hi"),
+];
+
+// However much of the opening was taken with the dial, the server gets the same.
+#[test]
+fn what_was_taken_with_the_dial_is_not_sent_again(rt: HostRuntime) -> Result<(), WireFault> {
+    for (kind, behind, later, expects_continue, opening, body) in OPENINGS {
+        let request = Outgoing::new(HEAD, *kind, behind, *expects_continue);
+        assert_eq!(rt; request.opening(), *opening);
+        for taken in 0..=opening.len() {
+            let mut client = ScriptedWire::new(rt.alloc(), later, Script::SMOOTH);
+            let mut server = server(rt.alloc(), usize::MAX, u64::MAX);
+            write_all(&mut server, &opening[..taken])?;
+            let answer = exchange(&request, taken, &mut client, &mut server);
+            assert!(rt;
+                answer == Ok(RESPONSE.len() as u64)
+                    && server.written().strip_prefix(HEAD) == Some(*body),
+                "{kind:?} {behind:?} {taken}"
+            );
+        }
+    }
+    Ok(())
 }

@@ -2,6 +2,7 @@ use http_relay_dial::{Dialer, Endpoint, Limits};
 use http_relay_system::{ServerWire, SocketDialer, SystemClock};
 use http_relay_wire::{SocketWire, Wire, WireFault, write_all};
 use lb_desk_ports::Clock;
+use std::io::Read;
 use std::net::{Ipv4Addr, Shutdown, TcpListener, TcpStream};
 use std::test::Fail;
 use std::time::{Duration, Instant};
@@ -27,9 +28,39 @@ fn dialled(
     limits: Limits,
 ) -> Result<(ServerWire, TcpStream), Fail> {
     let listener = TcpListener::bind(rt, "127.0.0.1:0")?;
-    let near = dialer.dial(rt, endpoint(listener.local_addr()?.port()), limits)?;
+    let port = listener.local_addr()?.port();
+    let (near, _) = dialer.dial(rt, endpoint(port), limits, b"")?;
     let (far, _) = listener.accept()?;
     Ok((near, far))
+}
+
+// What a server gets that is dialled with these bytes, of which the connection takes a beginning and a write the rest, and how many that
+// beginning had. The connection ends then.
+fn opened_with(rt: &HostRuntime, first: &[u8], got: &mut [u8]) -> Result<(usize, usize), Fail> {
+    let limits = Limits {
+        connect: Some(1000),
+        transfer: Some(1000),
+    };
+    let mut dialer = SocketDialer::new();
+    let listener = TcpListener::bind(rt, "127.0.0.1:0")?;
+    let port = listener.local_addr()?.port();
+    let (mut near, taken) = dialer.dial(rt, endpoint(port), limits, first)?;
+    let (mut far, _) = listener.accept()?;
+    write_all(&mut near, &first[taken.min(first.len())..])?;
+    far.read_exact(got)?;
+    dialer.hang_up(rt, near);
+    Ok((taken, first.len()))
+}
+
+// A server gets what it was dialled with, once. On one machine the connection takes it at once.
+#[test]
+fn a_dial_brings_first_bytes(rt: HostRuntime) -> Result<(), Fail> {
+    for first in [b"".as_slice(), b"h", b"GET / HTTP/1.1\r\n\r\n"] {
+        let mut got = Vec::from_elem(rt.alloc(), 0, first.len())?;
+        let (taken, all) = opened_with(&rt, first, &mut got)?;
+        assert!(rt; taken == all && got == first, "{taken} of {all}");
+    }
+    Ok(())
 }
 
 // How many bytes come there and back, and how a read ends where none come.
@@ -219,15 +250,17 @@ fn a_server_that_is_gone_is_not_dialled(rt: HostRuntime) -> Result<(), Fail> {
             connect,
             transfer: None,
         };
-        let mut dialer = SocketDialer::new();
-        let is_broken = match dialer.dial(&rt, endpoint(gone), limits) {
-            Ok(connection) => {
-                dialer.hang_up(&rt, connection);
-                false
-            }
-            Err(fault) => fault == WireFault::Broken,
-        };
-        assert!(rt; is_broken, "{connect:?}");
+        for first in [b"".as_slice(), b"hi"] {
+            let mut dialer = SocketDialer::new();
+            let is_broken = match dialer.dial(&rt, endpoint(gone), limits, first) {
+                Ok((connection, _)) => {
+                    dialer.hang_up(&rt, connection);
+                    false
+                }
+                Err(fault) => fault == WireFault::Broken,
+            };
+            assert!(rt; is_broken, "{connect:?} {first:?}");
+        }
     }
     Ok(())
 }

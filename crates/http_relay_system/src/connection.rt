@@ -1,3 +1,5 @@
+ghost use Rattle.std.specs.Prelude.{◌≤◌, length, IfOk};
+
 use http_relay_dial::Limits;
 use libc::net::{_SS_SIZE, POLLERR, POLLHUP, POLLIN, POLLOUT, POLLRDHUP, connect, poll};
 use libc::types::pollfd;
@@ -26,7 +28,8 @@ enum End {
 }
 
 /// A connection to a server. Its socket doesn't block: calls wait by `poll`, which takes the limit as an argument, so that none has to be
-/// set. A connection costs three calls of the system, an answer one besides its reads, and the end two. Where the server's end came with
+/// set. A connection costs three calls of the system, and two where the server is on this machine and first bytes are sent with the dial; an
+/// answer costs one besides its reads, and the end two. Where the server's end came with
 /// its answer, `poll` tells of both, and no read has to find the end. The connection ends by a reset (RFC 9293,
 /// 3.10.5, ABORT), as HAProxy's connections to servers do: nothing is owed to a server whose answer is there or isn't waited for, and
 /// an end in turn costs both sides more.
@@ -43,21 +46,32 @@ pub struct ServerStream {
 }
 
 impl ServerStream {
-    /// A connection to the server at this address under these limits. The error is the system's, or `TimedOut`.
-    pub fn connect<R: Net>(rt: &R, address: SocketAddr, limits: Limits) -> io::Result<Self> {
-        let stream = TcpStream::from(ready::TcpStream::connect(rt, address)?);
-        if has_failed(wait_for(&stream, POLLOUT, limits.connect)?) {
-            let error = stream.take_error()?;
-            return Err(error.unwrap_or(ErrorKind::NotConnected.into()));
-        }
-        Ok(ServerStream {
+    /// A connection to the server at this address under these limits, and how many of the first bytes it has taken: where the server is on
+    /// this machine as many as a write takes. The error is the system's, or `TimedOut`.
+    pub fn connect<R: Net>(
+        rt: &R,
+        address: SocketAddr,
+        limits: Limits,
+        first: &[u8],
+    ) -> io::Result<(Self, usize)>
+        ensures { IfOk result (λ connected. connected.1 ≤ length first.now) }
+    {
+        let mut stream = TcpStream::from(ready::TcpStream::connect(rt, address)?);
+        let at_once = if address.ip().is_loopback() {
+            first
+        } else {
+            &[]
+        };
+        let taken = begin(&mut stream, limits.connect, at_once)?;
+        let connection = ServerStream {
             stream,
             limit: limits.transfer,
-            has_written: false,
+            has_written: taken > 0,
             sends_at_once: false,
-            is_asked: false,
+            is_asked: taken > 0,
             end: End::Unknown,
-        })
+        };
+        Ok((connection, taken))
     }
 
     /// Has each further write send at once what it is given. A first one does so anyway: nothing that it would be kept for is under way.
@@ -143,6 +157,25 @@ impl Write for ServerStream {
     fn flush(&mut self) -> io::Result<()> {
         Ok(())
     }
+}
+
+// Writes a beginning of these bytes to a socket that is being connected, and answers how many it took. To write takes the end of the dial for
+// granted, which spares a call that waits for it: on one machine it comes before the system tells that the dial is under way. Where it hasn't come,
+// nothing is taken, and it is waited for.
+fn begin(stream: &mut TcpStream, limit: Option<u32>, at_once: &[u8]) -> io::Result<usize>
+    ensures { IfOk result (λ count. count ≤ length at_once.now) }
+{
+    if !at_once.is_empty() {
+        let answer = stream.write(at_once);
+        if !had_to_wait(&answer) {
+            return answer;
+        }
+    }
+    if has_failed(wait_for(stream, POLLOUT, limit)?) {
+        let error = stream.take_error()?;
+        return Err(error.unwrap_or(ErrorKind::NotConnected.into()));
+    }
+    Ok(0)
 }
 
 // Whether the call ended because it would have had to wait.

@@ -50,10 +50,11 @@ impl<R: Net> Dialer<R> for SocketDialer {
         rt: &R,
         endpoint: Endpoint,
         limits: Limits,
-    ) -> Result<ServerWire, WireFault> {
+        first: &[u8],
+    ) -> Result<(ServerWire, usize), WireFault> {
         let address = SocketAddr::V4(SocketAddrV4::new(endpoint.address, endpoint.port));
-        match ServerStream::connect(rt, address, limits) {
-            Ok(stream) => Ok(ServerWire::new(stream)),
+        match ServerStream::connect(rt, address, limits, first) {
+            Ok((stream, taken)) => Ok((ServerWire::new(stream), taken)),
             Err(error) => {
                 self.failures = self.failures.saturating_add(1);
                 Err(fault_of(&error))

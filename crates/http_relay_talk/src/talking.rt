@@ -6,7 +6,7 @@ use http_relay_dial::{Dialer, Endpoint, Limits};
 use http_relay_exchange::{Outgoing, exchange};
 use http_relay_wire::Wire;
 
-/// Dials the server, lets request and response pass, and hangs up.
+/// Dials the server with the request's opening, lets request and response pass, and hangs up.
 pub(crate) fn talk<R, D: Dialer<R>, C: Wire>(
     rt: &R,
     dialer: &mut D,
@@ -19,11 +19,11 @@ pub(crate) fn talk<R, D: Dialer<R>, C: Wire>(
         (D.failures dialer.old) (D.failures dialer.new)
         (talk_of C.written C.reading C.faults client.old) (talk_of C.written C.reading C.faults client.new) result }
 {
-    let mut connection = match dialer.dial(rt, endpoint, limits) {
-        Ok(connection) => connection,
+    let (mut connection, taken) = match dialer.dial(rt, endpoint, limits, request.opening()) {
+        Ok(dialled) => dialled,
         Err(fault) => return Err(TalkFault::Dial(fault)),
     };
-    let answer = exchange(request, client, &mut connection);
+    let answer = exchange(request, taken, client, &mut connection);
     dialer.hang_up(rt, connection);
     match answer {
         Ok(count) => Ok(count),

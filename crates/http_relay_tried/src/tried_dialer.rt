@@ -1,10 +1,11 @@
 //! A dialer over memory, whose wires fail behind any of their bytes.
 
 ghost use Rattle.std.specs.Prelude.{None};
+ghost use Rattle.http_relay_dial.specs.Dials.{HasTaken, talk_of};
 
 use crate::byte_wire::{ByteWire, Peer};
 use http_relay_dial::{Dialer, Endpoint, Limits};
-use http_relay_wire::WireFault;
+use http_relay_wire::{Wire, WireFault};
 use std::alloc::Global;
 
 /// A dialer that gives the same answer to each dial. It keeps its dials and the wires that it got back, and says where memory for
@@ -49,12 +50,13 @@ impl<'a, R> Dialer<R> for TriedDialer<'a> {
         _rt: &R,
         endpoint: Endpoint,
         limits: Limits,
-    ) -> Result<ByteWire<'a>, WireFault> {
+        first: &[u8],
+    ) -> Result<(ByteWire<'a>, usize), WireFault> {
         if self.dials.push((endpoint, limits)).is_err() {
             self.forgot = true;
         }
         match self.answer {
-            Ok(peer) => Ok(ByteWire::new(self.alloc, self.response, peer)),
+            Ok(peer) => Ok(begun(self.alloc, self.response, peer, first)),
             Err(fault) => {
                 self.failures = self.failures.saturating_add(1);
                 Err(fault)
@@ -66,5 +68,17 @@ impl<'a, R> Dialer<R> for TriedDialer<'a> {
         if self.talks.push(connection).is_err() {
             self.forgot = true;
         }
+    }
+}
+
+// A wire that has taken of the first bytes what a write takes, or nothing where that write would fail.
+fn begun<'a>(alloc: Global, response: &'a [u8], peer: Peer, first: &[u8]) -> (ByteWire<'a>, usize)
+    ensures { HasTaken first.now result.1 (talk_of ⟦<ByteWire<'a> as Wire>⟧.written ⟦<ByteWire<'a> as Wire>⟧.reading
+        ⟦<ByteWire<'a> as Wire>⟧.faults result.0) }
+{
+    let mut wire = ByteWire::new(alloc, response, peer);
+    match wire.write(first) {
+        Ok(count) => (wire, count),
+        Err(_) => (ByteWire::new(alloc, response, peer), 0),
     }
 }
