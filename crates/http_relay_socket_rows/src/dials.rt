@@ -58,7 +58,7 @@ fn a_dial_brings_first_bytes(rt: HostRuntime) -> Result<(), Fail> {
     for first in [b"".as_slice(), b"h", b"GET / HTTP/1.1\r\n\r\n"] {
         let mut got = Vec::from_elem(rt.alloc(), 0, first.len())?;
         let (taken, all) = opened_with(&rt, first, &mut got)?;
-        assert!(rt; taken == all && got == first, "{taken} of {all}");
+        assert!(rt; taken == all && got.as_slice() == first, "{taken} of {all}");
     }
     Ok(())
 }
