@@ -46,6 +46,13 @@ def processors(most: int = 2) -> tuple[str, str]:
     return ",".join(map(str, mine[:most])), ",".join(map(str, mine[most:]))
 
 
+def parted(cores: str) -> tuple[str, str]:
+    """Of these processors those of clients, and that of servers, each their own where there are two: else a server waits until the system
+    takes a processor from a client, and the slowest answers tell of that."""
+    each = cores.split(",")
+    return (cores, cores) if len(each) < 2 else (",".join(each[:-1]), each[-1])
+
+
 def ticks(cores: str) -> tuple[int, int]:
     """The ticks in which these processors had nothing to do, and all ticks, since the system began."""
     lines = [it.split() for it in Path("/proc/stat").read_text().splitlines()]
@@ -113,7 +120,8 @@ def origins(folder: Path, cores: str) -> subprocess.Popen[bytes]:
     """Two servers that answer at once, by `origin.c`, which is built in this folder."""
     program = str(folder / "origin")
     subprocess.run(["gcc", "-O2", "-Wall", "-pthread", "-o", program, str(BENCH / "origin.c")], check=True)
-    running = started([program, str(len(cores.split(","))), *map(str, ORIGINS)], cores)
+    own = parted(cores)[1]
+    running = started([program, str(len(own.split(","))), *map(str, ORIGINS)], own)
     for port in ORIGINS:
         wait_for(port)
     return running
@@ -126,8 +134,9 @@ def seconds_of(text: str) -> float:
 
 def load(port: int, clients: int, seconds: int, cores: str, script: Sequence[str] = ()) -> Told:
     """Loads the balancer at this port with one request a connection, or with what a script of `wrk` says."""
+    own = parted(cores)[0]
     told = subprocess.run(
-        ["taskset", "-c", cores, "wrk", "-t", "2", "-c", str(clients), "-d", f"{seconds}s", "--latency", "--timeout", "5s",
+        ["taskset", "-c", own, "wrk", "-t", str(len(own.split(","))), "-c", str(clients), "-d", f"{seconds}s", "--latency", "--timeout", "5s",
          *(("-s", script[0]) if script else ("-H", "Connection: close")), f"http://127.0.0.1:{port}/", *(("--", *script[1:]) if script else ())],
         capture_output=True, text=True, check=True,
     ).stdout

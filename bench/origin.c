@@ -1,5 +1,5 @@
-/* A server that costs as little as it can: `bench/balance` and `bench/pins` load balancers in front of it, on processors that it shares
- * with the clients, so that what is measured is the balancers' pace and not that of servers.
+/* A server that costs as little as it can: `bench/balance` and `bench/pins` load balancers in front of it, on a processor of its
+ * own where there are enough, so that what is measured is the balancers' pace and not that of servers.
  *
  *     origin THREADS PORT..
  *
