@@ -6,25 +6,36 @@
 #![tactic(auto)]
 
 mod config_reading;
+mod desk_trying;
+mod desks;
 mod farm_trying;
 mod plan_writing;
 mod planning;
 mod relaying;
 mod spreading;
 
+use crate::desks::What;
 use anyhow::{Context, Result, bail};
 use std::alloc::Global;
 use std::env;
+use std::random::RandomSource;
 use std::rt::Runtime;
+use std::sync::Wait;
+use std::thread::Threads;
 
 /// The words of each measurement on little input.
-const SMALL: [&str; 6] = [
+const SMALL: &[&str] = &[
     "plan 8 40 1000 1 98 4 5 7",
     "spread 1000",
     "write-plan 1000",
     "relay 10",
     "read-config 16384",
     "small-farms views 2 3 0 2 views 2 3 1 2 views 3 2 0 1 sheets 2 3 0 1 sheets 3 2 0 1",
+    "table 1000",
+    "desk 1000 1000",
+    "shared 1000 100",
+    "random 20000",
+    "threads 1000",
 ];
 
 fn main(rt: HostRuntime) -> Result<()> {
@@ -32,40 +43,52 @@ fn main(rt: HostRuntime) -> Result<()> {
     run(&rt, rt.alloc(), &words)
 }
 
-fn run(rt: &impl Runtime, alloc: Global, words: &[String]) -> Result<()> {
-    if words
-        .first()
-        .is_some_and(|word| word.as_str() == "all-small")
-    {
+fn run<R: Runtime + Threads + Wait + RandomSource + Sync>(
+    rt: &R,
+    alloc: Global,
+    words: &[String],
+) -> Result<()> {
+    let words: Vec<&str> = words.iter().map(|word| word.as_str()).collect(alloc)?;
+    if words.first().copied() == Some("all-small") {
         return measure_all(rt, alloc);
     }
-    let words: Vec<&str> = words.iter().map(|word| word.as_str()).collect(alloc)?;
     measure(rt, alloc, &words)
 }
 
-fn measure_all(rt: &impl Runtime, alloc: Global) -> Result<()> {
-    for line in &SMALL {
+fn measure_all<R: Runtime + Threads + Wait + RandomSource + Sync>(
+    rt: &R,
+    alloc: Global,
+) -> Result<()> {
+    for line in SMALL {
         println!(rt; "== {line}")?;
-        measure_line(rt, alloc, line)?;
+        let words: Vec<&str> = line.split_whitespace().collect(alloc)?;
+        measure(rt, alloc, &words)?;
     }
     Ok(())
 }
 
-fn measure_line(rt: &impl Runtime, alloc: Global, line: &str) -> Result<()> {
-    let words: Vec<&str> = line.split_whitespace().collect(alloc)?;
-    measure(rt, alloc, &words)
-}
-
 /// Takes the measurement that the first word names.
-fn measure(rt: &impl Runtime, alloc: Global, words: &[&str]) -> Result<()> {
+fn measure<R: Runtime + Threads + Wait + RandomSource + Sync>(
+    rt: &R,
+    alloc: Global,
+    words: &[&str],
+) -> Result<()> {
     let (name, words) = words.split_first().context("which measurement?")?;
-    match *name {
-        "plan" => planning::run(rt, alloc, words),
-        "spread" => spreading::run(rt, alloc, words),
-        "write-plan" => plan_writing::run(rt, alloc, words),
-        "relay" => relaying::run(rt, alloc, words),
-        "read-config" => config_reading::run(rt, alloc, words),
-        "small-farms" => farm_trying::run(rt, alloc, words),
-        _ => bail!("plan, spread, write-plan, relay, read-config, small-farms or all-small"),
-    }
+    let what = match *name {
+        "plan" => return planning::run(rt, alloc, words),
+        "spread" => return spreading::run(rt, alloc, words),
+        "write-plan" => return plan_writing::run(rt, alloc, words),
+        "relay" => return relaying::run(rt, alloc, words),
+        "read-config" => return config_reading::run(rt, alloc, words),
+        "small-farms" => return farm_trying::run(rt, alloc, words),
+        "table" => What::Table,
+        "desk" => What::Desk,
+        "shared" => What::Shared,
+        "random" => What::Random,
+        "threads" => What::Threads,
+        _ => bail!(
+            "plan, spread, write-plan, relay, read-config, small-farms, table, desk, shared, random, threads or all-small"
+        ),
+    };
+    desks::run(rt, alloc, what, words)
 }
