@@ -1,7 +1,7 @@
 //! A chunked body in its parts, each of which knows whether it is good.
 
 /// What a part is.
-#[derive(Clone, Copy, Debug, PartialEq, Eq)]
+#[derive(Clone, Copy)]
 pub(crate) enum PartKind {
     /// The size line of a chunk.
     Size,
@@ -14,7 +14,7 @@ pub(crate) enum PartKind {
 }
 
 /// Where a bad part shows that no more bytes can make it good.
-#[derive(Clone, Copy, Debug, PartialEq, Eq)]
+#[derive(Clone, Copy)]
 pub(crate) struct Bad {
     /// With so many of its bytes it shows, at the earliest.
     pub(crate) may: usize,
@@ -23,7 +23,7 @@ pub(crate) struct Bad {
 }
 
 /// A part of a chunked body.
-#[derive(Debug, Drop)]
+#[derive(Drop)]
 pub(crate) struct Part {
     pub(crate) kind: PartKind,
     pub(crate) text: Vec<u8>,
@@ -31,7 +31,7 @@ pub(crate) struct Part {
 }
 
 /// How far a body can be passed on.
-#[derive(Clone, Copy, Debug, PartialEq, Eq)]
+#[derive(Clone, Copy)]
 pub(crate) enum Reach {
     /// To its end.
     Whole,

@@ -8,7 +8,7 @@ use http_relay_wire::{FaultCounts, Wire, WireFault};
 use std::alloc::Global;
 
 /// How a peer behaves.
-#[derive(Clone, Copy, Debug, PartialEq, Eq)]
+#[derive(Clone, Copy, Debug)]
 pub(crate) struct Peer {
     /// How many bytes come of what it would send.
     pub(crate) sends: usize,
@@ -25,7 +25,7 @@ pub(crate) struct Peer {
 }
 
 /// A wire to a peer that sends fixed bytes. What is written to it is kept. It tells no proof of its bytes, so that it may be plain.
-#[derive(Debug, Drop)]
+#[derive(Drop)]
 pub(crate) struct ByteWire<'a> {
     peer: Peer,
     unread: &'a [u8],
@@ -118,4 +118,9 @@ fn fault_behind(unread: &[u8], then: Option<WireFault>) -> Option<WireFault> {
 /// The first bytes of a text, so many or all.
 pub(crate) fn front(text: &[u8], count: usize) -> &[u8] {
     &text[..count.min(text.len())]
+}
+
+/// What stands behind them.
+pub(crate) fn back(text: &[u8], count: usize) -> &[u8] {
+    &text[count.min(text.len())..]
 }

@@ -3,7 +3,7 @@
 use http_relay_wire::WireFault;
 
 /// The generator SplitMix64, of whose numbers the upper halves are taken.
-#[derive(Debug, Drop)]
+#[derive(Drop)]
 pub(crate) struct Dice {
     state: u64,
 }

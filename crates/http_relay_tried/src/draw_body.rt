@@ -13,25 +13,42 @@ const MOST_TRAILER_BYTES: usize = 8192;
 /// The most fields of a trailer.
 const MOST_TRAILER_FIELDS: usize = 100;
 
-/// The parts of a chunked body, of which the last may be bad.
-pub(crate) fn draw_parts(alloc: Global, dice: &mut Dice) -> Result<Vec<Part>, AllocError> {
+/// The parts of a chunked body, of which the last may be bad, and none of a body that isn't chunked.
+pub(crate) fn draw_parts(
+    alloc: Global,
+    dice: &mut Dice,
+    is_chunked: bool,
+) -> Result<Vec<Part>, AllocError> {
     let mut parts = Vec::new(alloc);
+    if is_chunked {
+        add_parts(alloc, dice, &mut parts)?;
+    }
+    Ok(parts)
+}
+
+fn add_parts(alloc: Global, dice: &mut Dice, parts: &mut Vec<Part>) -> Result<(), AllocError> {
     for _ in 0..dice.roll(4) {
-        let size = if dice.is_one_in(60) {
-            dice.number(&[16384, 16385, 20000])
-        } else {
-            dice.roll(20).saturating_add(1)
-        };
-        parts.push(size_line(alloc, dice, size)?)?;
-        parts.push(good(PartKind::Content, draw_bytes(alloc, dice, size)?))?;
-        parts.push(good(PartKind::ContentEnd, Vec::from_slice(alloc, b"\r\n")?))?;
+        add_chunk(alloc, dice, parts)?;
     }
     parts.push(size_line(alloc, dice, 0)?)?;
     parts.push(good(PartKind::Trailer, trailer(alloc, dice)?))?;
     if dice.is_one_in(3) {
-        spoil(alloc, dice, &mut parts)?;
+        spoil(alloc, dice, parts)?;
     }
-    Ok(parts)
+    Ok(())
+}
+
+/// Adds a chunk of some bytes.
+fn add_chunk(alloc: Global, dice: &mut Dice, parts: &mut Vec<Part>) -> Result<(), AllocError> {
+    let size = if dice.is_one_in(60) {
+        dice.number(&[16384, 16385, 20000])
+    } else {
+        dice.roll(20).saturating_add(1)
+    };
+    parts.push(size_line(alloc, dice, size)?)?;
+    parts.push(good(PartKind::Content, draw_bytes(alloc, dice, size)?))?;
+    parts.push(good(PartKind::ContentEnd, Vec::from_slice(alloc, b"\r\n")?))?;
+    Ok(())
 }
 
 /// Bytes of which many are those that lines are made of.
@@ -65,15 +82,20 @@ fn good(kind: PartKind, text: Vec<u8>) -> Part {
 /// A size line of at most as many bytes as it may have.
 fn size_line(alloc: Global, dice: &mut Dice, size: usize) -> Result<Part, AllocError> {
     let zeros = dice.word(&["", "", "", "0", "0000000"]);
-    let mut text = if dice.is_one_in(2) {
-        format!(in alloc; "{zeros}{size:x}")?.into_bytes()
+    let digits = if dice.is_one_in(2) {
+        format!(in alloc; "{zeros}{size:x}")?
     } else {
-        format!(in alloc; "{zeros}{size:X}")?.into_bytes()
+        format!(in alloc; "{zeros}{size:X}")?
     };
-    text.extend_from_slice(
-        dice.word(&["", "", "", " ", ";a=\"1\"", "\t ;\x00"])
-            .as_bytes(),
-    )?;
+    let mut text = digits.into_bytes();
+    end_size_line(dice, &mut text)?;
+    Ok(good(PartKind::Size, text))
+}
+
+/// Adds to a size what stands behind it.
+fn end_size_line(dice: &mut Dice, text: &mut Vec<u8>) -> Result<(), AllocError> {
+    let behind = dice.word(&["", "", "", " ", ";a=\"1\"", "\t ;\x00"]);
+    text.extend_from_slice(behind.as_bytes())?;
     if dice.is_one_in(30) {
         text.extend_from_slice(b";")?;
         let ends = b"\r\n";
@@ -81,8 +103,7 @@ fn size_line(alloc: Global, dice: &mut Dice, size: usize) -> Result<Part, AllocE
             text.push(b'e')?;
         }
     }
-    text.extend_from_slice(b"\r\n")?;
-    Ok(good(PartKind::Size, text))
+    text.extend_from_slice(b"\r\n")
 }
 
 /// A trailer, now and then of as many bytes or fields as it may have.
@@ -158,57 +179,62 @@ fn bad(
     })
 }
 
-/// Something in the place of a size line. It shows with the first byte that can't stand there, and a long one where its line feed can only
-/// come too late.
+/// What may stand in the place of a size line, and with how many of its bytes it shows: with the first byte that can't stand there.
+const BAD_SIZE_LINES: &[(&str, usize)] = &[
+    ("g\r\n", 1),
+    ("1g\r\n", 2),
+    ("-1\r\n", 1),
+    ("0x5\r\n", 2),
+    ("\r\n", 1),
+    ("5\n", 2),
+    ("5\rx", 3),
+    ("00000000000000005\r\n", 17),
+];
+
+/// One of these, or a line that is too long, which shows where its line feed can only come too late.
 fn bad_size_line(alloc: Global, dice: &mut Dice) -> Result<Part, AllocError> {
-    let (text, shown) = match dice.roll(9) {
-        0 => ("g\r\n", 1),
-        1 => ("1g\r\n", 2),
-        2 => ("-1\r\n", 1),
-        3 => ("0x5\r\n", 2),
-        4 => ("\r\n", 1),
-        5 => ("5\n", 2),
-        6 => ("5\rx", 3),
-        7 => ("00000000000000005\r\n", 17),
-        _ => {
-            let mut line = bad(
-                alloc,
-                PartKind::Size,
-                "5;",
-                MOST_SIZE_BYTES.saturating_sub(1),
-                MOST_SIZE_BYTES.saturating_sub(1),
-            )?;
-            for _ in 0..MOST_SIZE_BYTES {
-                line.text.push(b'e')?;
-            }
-            return Ok(line);
-        }
-    };
-    bad(alloc, PartKind::Size, text, shown, shown)
+    if let Some((text, shown)) = BAD_SIZE_LINES.get(dice.roll(9)) {
+        return bad(alloc, PartKind::Size, text, *shown, *shown);
+    }
+    let shown = MOST_SIZE_BYTES.saturating_sub(1);
+    let mut line = bad(alloc, PartKind::Size, "5;", shown, shown)?;
+    for _ in 0..MOST_SIZE_BYTES {
+        line.text.push(b'e')?;
+    }
+    Ok(line)
 }
 
-/// Something in the place of a trailer. It may show with the first byte that can't stand there, and has to at the end of its line.
+/// What may stand in the place of a trailer, and with how many of its bytes it shows: it may with the first byte that can't stand
+/// there, and has to at the end of its line.
+const BAD_TRAILERS: &[(&str, usize, usize)] = &[
+    ("Bad Name: 1\r\n\r\n", 4, 13),
+    (" T: 1\r\n\r\n", 1, 7),
+    ("T: 1\r\n folded\r\n\r\n", 7, 15),
+    ("T: 1\0\r\n\r\n", 5, 7),
+    ("T\r\n\r\n", 2, 3),
+];
+
+/// One of these, or a trailer that is too long.
 fn bad_trailer(alloc: Global, dice: &mut Dice) -> Result<Part, AllocError> {
-    let (text, may, must) = match dice.roll(7) {
-        0 => ("Bad Name: 1\r\n\r\n", 4, 13),
-        1 => (" T: 1\r\n\r\n", 1, 7),
-        2 => ("T: 1\r\n folded\r\n\r\n", 7, 15),
-        3 => ("T: 1\0\r\n\r\n", 5, 7),
-        4 => ("T\r\n\r\n", 2, 3),
-        5 => {
-            let most = MOST_TRAILER_BYTES;
-            return Ok(Part {
-                kind: PartKind::Trailer,
-                text: long_trailer(alloc, most.saturating_add(1))?,
-                bad: Some(Bad {
-                    may: most.saturating_sub(1),
-                    must: most,
-                }),
-            });
-        }
-        _ => return too_many_fields(alloc),
-    };
-    bad(alloc, PartKind::Trailer, text, may, must)
+    let number = dice.roll(7);
+    match BAD_TRAILERS.get(number) {
+        Some((text, may, must)) => bad(alloc, PartKind::Trailer, text, *may, *must),
+        None if number == 5 => too_many_bytes(alloc),
+        None => too_many_fields(alloc),
+    }
+}
+
+/// A trailer with one byte more than it may have.
+fn too_many_bytes(alloc: Global) -> Result<Part, AllocError> {
+    let most = MOST_TRAILER_BYTES;
+    Ok(Part {
+        kind: PartKind::Trailer,
+        text: long_trailer(alloc, most.saturating_add(1))?,
+        bad: Some(Bad {
+            may: most.saturating_sub(1),
+            must: most,
+        }),
+    })
 }
 
 /// A trailer with one field more than it may have. It may show from that one's first byte on.

@@ -1,12 +1,12 @@
 //! Heads that are made up.
 
 use crate::dice::Dice;
-use crate::head::{Head, Line, MOST_FIELDS, Name, Says, Word};
+use crate::head::{Head, Line, MOST_FIELDS, Name, Says, Word, add_words};
 use lb_acl::Version;
 use std::alloc::{AllocError, Global};
 
 /// How the end of a body is told.
-#[derive(Clone, Copy, Debug, PartialEq, Eq)]
+#[derive(Clone, Copy, PartialEq, Eq)]
 pub(crate) enum Framing {
     Nothing,
     Length,
@@ -93,6 +93,18 @@ fn framing_lines(
         let told = if is_other { length ^ 1 } else { length };
         lines.push(length_line(alloc, dice, told)?)?;
     }
+    add_codings(alloc, dice, framing, codings, &mut lines)?;
+    Ok(lines)
+}
+
+/// Adds so many lines that tell the coding, and that line which tells a length or a coding badly.
+fn add_codings(
+    alloc: Global,
+    dice: &mut Dice,
+    framing: Framing,
+    codings: usize,
+    lines: &mut Vec<Line>,
+) -> Result<(), AllocError> {
     for _ in 0..codings {
         lines.push(coding_line(alloc, dice)?)?;
     }
@@ -101,7 +113,7 @@ fn framing_lines(
         Framing::OtherCoding => lines.push(other_coding_line(alloc, dice)?)?,
         _ => {}
     }
-    Ok(lines)
+    Ok(())
 }
 
 /// A line whose length is none.
@@ -142,16 +154,17 @@ fn coding_line(alloc: Global, dice: &mut Dice) -> Result<Line, AllocError> {
 
 /// A line that tells nothing of the body's end.
 fn draw_line(alloc: Global, dice: &mut Dice) -> Result<Line, AllocError> {
-    match dice.roll(12) {
-        0 => options_line(alloc, dice),
-        1 => expect_line(alloc, dice),
-        2 | 3 => id_line(alloc, dice),
-        4 => cookie_line(alloc, dice),
-        5 => plain_line(alloc, dice, Name::Host),
-        6 => plain_line(alloc, dice, Name::KeepAlive),
-        7 => plain_line(alloc, dice, Name::ForwardedFor),
-        _ => plain_line(alloc, dice, Name::Trace),
-    }
+    let name = match dice.roll(12) {
+        0 => return options_line(alloc, dice),
+        1 => return expect_line(alloc, dice),
+        2 | 3 => return id_line(alloc, dice),
+        4 => return cookie_line(alloc, dice),
+        5 => Name::Host,
+        6 => Name::KeepAlive,
+        7 => Name::ForwardedFor,
+        _ => Name::Trace,
+    };
+    plain_line(alloc, dice, name)
 }
 
 /// A `Connection` that names up to three fields, of which few tell the host or the body.
@@ -159,23 +172,27 @@ fn options_line(alloc: Global, dice: &mut Dice) -> Result<Line, AllocError> {
     let mut value = Vec::from_slice(alloc, b"close")?;
     let mut options = Vec::new(alloc);
     for _ in 0..dice.roll(4) {
-        let name = match dice.roll(60) {
-            0 => Name::Host,
-            1 => Name::ContentLength,
-            2 => Name::TransferEncoding,
-            3..10 => Name::ForwardedFor,
-            10..20 => Name::Id,
-            20..25 => Name::Cookie,
-            25..28 => Name::Connection,
-            28..31 => Name::Expect,
-            31..45 => Name::KeepAlive,
-            _ => Name::Trace,
-        };
-        value.extend_from_slice(dice.word(&[",", ", ", " ,\t", ",,"]).as_bytes())?;
-        value.extend_from_slice(spelled(dice, name).as_bytes())?;
+        let name = draw_option(dice);
+        let comma = dice.word(&[",", ", ", " ,\t", ",,"]);
+        add_words(&mut value, &[comma, spelled(dice, name)])?;
         options.push(name)?;
     }
     Ok(line(dice, Name::Connection, value, Says::Options(options)))
+}
+
+fn draw_option(dice: &mut Dice) -> Name {
+    match dice.roll(60) {
+        0 => Name::Host,
+        1 => Name::ContentLength,
+        2 => Name::TransferEncoding,
+        3..10 => Name::ForwardedFor,
+        10..20 => Name::Id,
+        20..25 => Name::Cookie,
+        25..28 => Name::Connection,
+        28..31 => Name::Expect,
+        31..45 => Name::KeepAlive,
+        _ => Name::Trace,
+    }
 }
 
 fn expect_line(alloc: Global, dice: &mut Dice) -> Result<Line, AllocError> {
@@ -195,10 +212,12 @@ fn id_line(alloc: Global, dice: &mut Dice) -> Result<Line, AllocError> {
     let last = draw_key(dice);
     for _ in 0..dice.roll(3) {
         let word = draw_key(dice);
-        value.extend_from_slice(word.text.as_bytes())?;
         let comma = dice.word(&[",", ", ", "\t,"]);
         let is_inside = !word.text.is_empty() && !last.text.is_empty();
-        value.extend_from_slice(if is_inside { comma } else { "," }.as_bytes())?;
+        add_words(
+            &mut value,
+            &[word.text, if is_inside { comma } else { "," }],
+        )?;
     }
     value.extend_from_slice(last.text.as_bytes())?;
     Ok(line(dice, Name::Id, value, Says::Key(last)))
@@ -211,10 +230,8 @@ fn cookie_line(alloc: Global, dice: &mut Dice) -> Result<Line, AllocError> {
     for _ in 0..dice.roll(4) {
         let word = draw_key(dice);
         let name = dice.word(&["id", "id", "ID", "xid", "i"]);
-        value.extend_from_slice(dice.word(&[";", "; ", " ;\t"]).as_bytes())?;
-        value.extend_from_slice(name.as_bytes())?;
-        value.extend_from_slice(b"=")?;
-        value.extend_from_slice(word.text.as_bytes())?;
+        let semicolon = dice.word(&[";", "; ", " ;\t"]);
+        add_words(&mut value, &[semicolon, name, "=", word.text])?;
         if name == "id" {
             says = Says::Key(word);
         }
@@ -243,15 +260,25 @@ pub(crate) fn stretch(
     head: &mut Head,
     room: usize,
 ) -> Result<(), AllocError> {
-    if dice.is_one_in(2) {
-        let wanted = MOST_FIELDS
-            .saturating_add(dice.number(&[0, 0, 1, 2]))
-            .saturating_sub(1);
-        for _ in head.lines.len()..wanted {
-            head.lines.push(plain_line(alloc, dice, Name::Trace)?)?;
-        }
-        return Ok(());
+    if !dice.is_one_in(2) {
+        return add_long_line(alloc, dice, head, room);
     }
+    let wanted = MOST_FIELDS
+        .saturating_add(dice.number(&[0, 0, 1, 2]))
+        .saturating_sub(1);
+    for _ in head.lines.len()..wanted {
+        head.lines.push(plain_line(alloc, dice, Name::Trace)?)?;
+    }
+    Ok(())
+}
+
+/// Adds a line by whose value the head has about so many bytes.
+fn add_long_line(
+    alloc: Global,
+    dice: &mut Dice,
+    head: &mut Head,
+    room: usize,
+) -> Result<(), AllocError> {
     let mut long = plain_line(alloc, dice, Name::Trace)?;
     long.value = Vec::new(alloc);
     head.lines.push(long)?;

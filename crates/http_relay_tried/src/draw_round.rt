@@ -25,39 +25,60 @@ const LONGEST: u64 = 999_999_999_999_999_999;
 /// The round of this number.
 pub(crate) fn draw_round(alloc: Global, number: u64) -> Result<Round, AllocError> {
     let dice = &mut Dice::new(number);
+    let sent = draw_sent(alloc, dice)?;
+    let response = draw_response(alloc, dice)?;
+    let (source, address) = draw_source(dice);
+    let site = draw_site(alloc, dice)?;
+    let size = sent.text.bytes.len();
+    let sizes = Sizes {
+        head: size,
+        behind: sent.input.len().saturating_sub(size),
+        response: response.len(),
+        is_long: sent.input.len() > 2000 || response.len() > 2000,
+    };
+    let start = dice.roll(100_000) as u64;
+    let client = draw_client(dice, sizes);
+    let server = site.place_for(sent.head.version).target.server;
+    Ok(Round {
+        source,
+        address,
+        start,
+        client,
+        desk: draw_desk(alloc, dice, server)?,
+        dial: draw_dial(dice, sizes),
+        site,
+        head: sent.head,
+        text: sent.text,
+        spoilt_at: sent.spoilt_at,
+        parts: sent.parts,
+        input: sent.input,
+        response,
+    })
+}
+
+/// What a client sends, as its fields stand in a round.
+#[derive(Drop)]
+struct Sent {
+    head: Head,
+    text: HeadText,
+    spoilt_at: Option<usize>,
+    parts: Vec<Part>,
+    input: Vec<u8>,
+}
+
+fn draw_sent(alloc: Global, dice: &mut Dice) -> Result<Sent, AllocError> {
     let framing = draw_framing(dice);
     let length = draw_length(dice);
     let mut head = draw_head(alloc, dice, framing, length)?;
     let (text, spoilt_at) = draw_text(alloc, dice, &mut head)?;
-    let parts = if framing == Framing::Chunks {
-        draw_parts(alloc, dice)?
-    } else {
-        Vec::new(alloc)
-    };
+    let parts = draw_parts(alloc, dice, framing == Framing::Chunks)?;
     let input = draw_input(alloc, dice, &text.bytes, &parts, length)?;
-    let response = draw_response(alloc, dice)?;
-    let (source, address) = draw_source(dice);
-    let site = draw_site(alloc, dice)?;
-    let sizes = Sizes {
-        head: text.bytes.len(),
-        behind: input.len().saturating_sub(text.bytes.len()),
-        response: response.len(),
-        is_long: input.len() > 2000 || response.len() > 2000,
-    };
-    Ok(Round {
-        source,
-        address,
-        start: dice.roll(100_000) as u64,
-        client: draw_client(dice, sizes),
-        desk: draw_desk(alloc, dice, &head, &site)?,
-        dial: draw_dial(dice, sizes),
-        site,
+    Ok(Sent {
         head,
         text,
         spoilt_at,
         parts,
         input,
-        response,
     })
 }
 
@@ -102,6 +123,18 @@ fn draw_input(
     length: u64,
 ) -> Result<Vec<u8>, AllocError> {
     let mut input = Vec::from_slice(alloc, head)?;
+    add_body(alloc, dice, parts, length, &mut input)?;
+    Ok(input)
+}
+
+/// Adds the body, and often a second request behind it.
+fn add_body(
+    alloc: Global,
+    dice: &mut Dice,
+    parts: &[Part],
+    length: u64,
+    input: &mut Vec<u8>,
+) -> Result<(), AllocError> {
     for part in parts {
         input.extend_from_slice(&part.text)?;
     }
@@ -119,8 +152,7 @@ fn draw_input(
         "0\r\n\r\n",
         "GET /admin HTTP/1.1\r\nHost: x\r\n\r\n",
     ]);
-    input.extend_from_slice(more.as_bytes())?;
-    Ok(input)
+    input.extend_from_slice(more.as_bytes())
 }
 
 /// What a server sends, which nobody reads but the client.
@@ -213,29 +245,10 @@ fn draw_pattern(alloc: Global, dice: &mut Dice) -> Result<StickOn, AllocError> {
     Ok(StickOn { sample, table })
 }
 
-/// What the desk answers: mostly the server that the configuration has for the backend that takes the head.
-fn draw_desk(alloc: Global, dice: &mut Dice, head: &Head, site: &Site) -> Result<Desk, AllocError> {
-    let server = site.place_for(head.version).target.server;
-    let other = ServerId::new((server.index() % 127) as u8 + 1);
-    let asked = match dice.roll(60) {
-        0 => Asked::NoServer,
-        1 => Asked::NoSuchServer,
-        2 => Asked::Served(other, ServedAs::Kept),
-        3..20 => Asked::Served(server, ServedAs::Kept),
-        20..30 => Asked::Served(server, ServedAs::Loose),
-        30..35 => Asked::Served(server, ServedAs::Moved),
-        _ => Asked::Served(server, ServedAs::Made),
-    };
-    let mut openings = Vec::new(alloc);
-    if dice.is_one_in(6) {
-        for _ in 0..dice.roll(5) {
-            openings.push(ScriptedOpening::Full)?;
-        }
-        openings.push(match dice.roll(4) {
-            0 => ScriptedOpening::NotServing,
-            _ => ScriptedOpening::Opened,
-        })?;
-    }
+/// What the desk answers: mostly this server, which the configuration has for the backend that takes the head.
+fn draw_desk(alloc: Global, dice: &mut Dice, server: ServerId) -> Result<Desk, AllocError> {
+    let asked = draw_asked(dice, server);
+    let openings = draw_openings(alloc, dice)?;
     let refused = if dice.is_one_in(2) {
         Refused::Memory
     } else {
@@ -253,6 +266,33 @@ fn draw_desk(alloc: Global, dice: &mut Dice, head: &Head, site: &Site) -> Result
     })
 }
 
+fn draw_asked(dice: &mut Dice, server: ServerId) -> Asked {
+    let other = ServerId::new((server.index() % 127) as u8 + 1);
+    match dice.roll(60) {
+        0 => Asked::NoServer,
+        1 => Asked::NoSuchServer,
+        2 => Asked::Served(other, ServedAs::Kept),
+        3..20 => Asked::Served(server, ServedAs::Kept),
+        20..30 => Asked::Served(server, ServedAs::Loose),
+        30..35 => Asked::Served(server, ServedAs::Moved),
+        _ => Asked::Served(server, ServedAs::Made),
+    }
+}
+
+fn draw_openings(alloc: Global, dice: &mut Dice) -> Result<Vec<ScriptedOpening>, AllocError> {
+    let mut openings = Vec::new(alloc);
+    if dice.is_one_in(6) {
+        for _ in 0..dice.roll(5) {
+            openings.push(ScriptedOpening::Full)?;
+        }
+        openings.push(match dice.roll(4) {
+            0 => ScriptedOpening::NotServing,
+            _ => ScriptedOpening::Opened,
+        })?;
+    }
+    Ok(openings)
+}
+
 /// The most bytes of a piece. Where there is much to move, pieces are large, so that a round stays short.
 fn draw_piece(dice: &mut Dice, is_long: bool) -> usize {
     if is_long {
@@ -263,7 +303,7 @@ fn draw_piece(dice: &mut Dice, is_long: bool) -> usize {
 }
 
 /// How many bytes a client and a server would send: the one in its head and behind it, the other in its response.
-#[derive(Clone, Copy, Debug, PartialEq, Eq)]
+#[derive(Clone, Copy)]
 struct Sizes {
     head: usize,
     behind: usize,

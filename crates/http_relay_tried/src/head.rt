@@ -4,7 +4,7 @@ use lb_acl::Version;
 use std::alloc::{AllocError, Global};
 
 /// The names of the fields.
-#[derive(Clone, Copy, Debug, PartialEq, Eq)]
+#[derive(Clone, Copy, PartialEq, Eq)]
 pub(crate) enum Name {
     Host,
     Connection,
@@ -41,7 +41,7 @@ impl Name {
 }
 
 /// What a line says beside its bytes.
-#[derive(Debug, Drop)]
+#[derive(Drop)]
 pub(crate) enum Says {
     /// Nothing that matters here.
     Nothing,
@@ -58,7 +58,7 @@ pub(crate) enum Says {
 }
 
 /// A key as a request spells it.
-#[derive(Clone, Copy, Debug, PartialEq, Eq)]
+#[derive(Clone, Copy)]
 pub(crate) struct Word {
     pub(crate) text: &'static str,
     /// The address that it is, if it is one.
@@ -66,7 +66,7 @@ pub(crate) struct Word {
 }
 
 /// A line of a field.
-#[derive(Debug, Drop)]
+#[derive(Drop)]
 pub(crate) struct Line {
     pub(crate) name: Name,
     pub(crate) spelled: &'static str,
@@ -79,7 +79,7 @@ pub(crate) struct Line {
 }
 
 /// The head of a request.
-#[derive(Debug, Drop)]
+#[derive(Drop)]
 pub(crate) struct Head {
     pub(crate) empty_lines: &'static str,
     pub(crate) method: &'static str,
@@ -94,7 +94,7 @@ pub(crate) struct Head {
 pub(crate) const MOST_FIELDS: usize = 100;
 
 /// A head as its client sends it.
-#[derive(Debug, Drop)]
+#[derive(Drop)]
 pub(crate) struct HeadText {
     pub(crate) bytes: Vec<u8>,
     /// Where the first field stands that is one too many, if there is one.
@@ -104,33 +104,47 @@ pub(crate) struct HeadText {
 impl Head {
     /// The head as its client sends it.
     pub(crate) fn text(&self, alloc: Global) -> Result<HeadText, AllocError> {
-        let mut bytes = Vec::from_slice(alloc, self.empty_lines.as_bytes())?;
-        for word in [self.method, " ", self.target, " "] {
-            bytes.extend_from_slice(word.as_bytes())?;
-        }
-        bytes.extend_from_slice(version_text(self.version).as_bytes())?;
-        bytes.extend_from_slice(self.line_end.as_bytes())?;
-        let mut too_many_at = None;
+        let mut text = HeadText {
+            bytes: Vec::new(alloc),
+            too_many_at: None,
+        };
+        self.add_to(&mut text)?;
+        Ok(text)
+    }
+
+    fn add_to(&self, text: &mut HeadText) -> Result<(), AllocError> {
+        add_words(
+            &mut text.bytes,
+            &[self.empty_lines, self.method, " ", self.target, " "],
+        )?;
+        add_words(
+            &mut text.bytes,
+            &[version_text(self.version), self.line_end],
+        )?;
         for (number, line) in self.lines.iter().enumerate() {
             if number == MOST_FIELDS {
-                too_many_at = Some(bytes.len());
+                text.too_many_at = Some(text.bytes.len());
             }
-            line.add_to(&mut bytes)?;
+            line.add_to(&mut text.bytes)?;
         }
-        bytes.extend_from_slice(self.line_end.as_bytes())?;
-        Ok(HeadText { bytes, too_many_at })
+        text.bytes.extend_from_slice(self.line_end.as_bytes())
     }
 }
 
 impl Line {
     fn add_to(&self, bytes: &mut Vec<u8>) -> Result<(), AllocError> {
-        bytes.extend_from_slice(self.spelled.as_bytes())?;
-        bytes.extend_from_slice(b":")?;
-        bytes.extend_from_slice(self.before.as_bytes())?;
+        add_words(bytes, &[self.spelled, ":", self.before])?;
         bytes.extend_from_slice(&self.value)?;
-        bytes.extend_from_slice(self.behind.as_bytes())?;
-        Ok(())
+        bytes.extend_from_slice(self.behind.as_bytes())
     }
+}
+
+/// Adds these words, one behind the other.
+pub(crate) fn add_words(bytes: &mut Vec<u8>, words: &[&str]) -> Result<(), AllocError> {
+    for word in words {
+        bytes.extend_from_slice(word.as_bytes())?;
+    }
+    Ok(())
 }
 
 /// The version as it is spelled.

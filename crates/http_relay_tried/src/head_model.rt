@@ -1,7 +1,7 @@
 //! What the profile says of a head.
 
 use crate::byte_wire::front;
-use crate::head::{Head, Name, Says, Word, version_text};
+use crate::head::{Head, Name, Says, Word, add_words, version_text};
 use crate::round::Round;
 use crate::site::Place;
 use http_relay_head::HEAD_ROOM;
@@ -13,40 +13,43 @@ use std::alloc::{AllocError, Global};
 use std::net::Ipv4Addr;
 
 /// How the end of a body is told.
-#[derive(Clone, Copy, Debug, PartialEq, Eq)]
+#[derive(Clone, Copy)]
 pub(crate) enum Kind {
     Empty,
     Length(u64),
     Chunked,
 }
 
-/// How the request ends at its head: no way where the head is whole and good, and mostly one else.
-pub(crate) fn head_ends(alloc: Global, round: &Round) -> Result<Vec<Outcome>, AllocError> {
-    let mut ends = Vec::new(alloc);
+/// How the request ends at its head, and how it may end else: not at all where the head is whole and good, and mostly in one way.
+pub(crate) fn head_ends(round: &Round) -> (Option<Outcome>, Option<Outcome>) {
     let came = round.came();
     let size = round.text.bytes.len();
-    let cut = match round.client.then {
+    let too_many_at = round.text.too_many_at;
+    let too_large = Outcome::Answered(Cause::HeadTooLarge);
+    if round.spoilt_at.is_some_and(|at| came > at) {
+        (Some(Outcome::Answered(Cause::BadHead)), None)
+    } else if (size > HEAD_ROOM && came >= HEAD_ROOM) || (too_many_at.is_some() && came >= size) {
+        (Some(too_large), None)
+    } else if came >= size {
+        match refusal(&round.head) {
+            Some(cause) => (Some(Outcome::Answered(cause)), None),
+            None => (None, None),
+        }
+    } else if too_many_at.is_some_and(|at| came > at) {
+        // Within the field that is one too many, the one may be told or the other.
+        (Some(cut(round)), Some(too_large))
+    } else {
+        (Some(cut(round)), None)
+    }
+}
+
+/// How it ends where the client is cut off within its head.
+fn cut(round: &Round) -> Outcome {
+    match round.client.then {
         None => Outcome::Answered(Cause::HeadCutShort),
         Some(WireFault::Timeout) => Outcome::Answered(Cause::HeadTimedOut),
         Some(WireFault::Broken) => Outcome::Dropped(DropCause::HeadBroken),
-    };
-    let too_large = Outcome::Answered(Cause::HeadTooLarge);
-    if round.spoilt_at.is_some_and(|at| came > at) {
-        ends.push(Outcome::Answered(Cause::BadHead))?;
-    } else if size > HEAD_ROOM && came >= HEAD_ROOM {
-        ends.push(too_large)?;
-    } else if round.text.too_many_at.is_some() && came >= size {
-        ends.push(too_large)?;
-    } else if came < size {
-        ends.push(cut)?;
-        // Within the field that is one too many, the one may be told or the other.
-        if round.text.too_many_at.is_some_and(|at| came > at) {
-            ends.push(too_large)?;
-        }
-    } else if let Some(cause) = refusal(&round.head) {
-        ends.push(Outcome::Answered(cause))?;
     }
-    Ok(ends)
 }
 
 /// Why no server may see the head.
@@ -133,41 +136,37 @@ pub(crate) fn waits(head: &Head, kind: Kind) -> bool {
     has_body && does_wait && head.version == Version::Http11
 }
 
-/// The head that the server gets.
-pub(crate) fn forwarded(
-    alloc: Global,
+/// Adds the head that the server gets.
+pub(crate) fn add_forwarded(
     round: &Round,
     place: &Place,
-) -> Result<Vec<u8>, AllocError> {
+    text: &mut Vec<u8>,
+) -> Result<(), AllocError> {
     let head = &round.head;
-    let mut text = Vec::new(alloc);
-    for word in [
-        head.method,
-        " ",
-        head.target,
-        " ",
-        version_text(head.version),
-        "\r\n",
-    ] {
-        text.extend_from_slice(word.as_bytes())?;
-    }
+    add_words(
+        text,
+        &[
+            head.method,
+            " ",
+            head.target,
+            " ",
+            version_text(head.version),
+            "\r\n",
+        ],
+    )?;
     for line in &head.lines {
         let is_ours = line.name == Name::Connection || line.name == Name::Expect;
         if !is_ours && !is_option(head, line.name) {
-            text.extend_from_slice(line.spelled.as_bytes())?;
-            text.extend_from_slice(b": ")?;
+            add_words(text, &[line.spelled, ": "])?;
             text.extend_from_slice(&line.value)?;
             text.extend_from_slice(b"\r\n")?;
         }
     }
     text.extend_from_slice(b"Connection: close\r\n")?;
     if place.forwards_address {
-        text.extend_from_slice(b"X-Forwarded-For: ")?;
-        text.extend_from_slice(round.source.text.as_bytes())?;
-        text.extend_from_slice(b"\r\n")?;
+        add_words(text, &["X-Forwarded-For: ", round.source.text, "\r\n"])?;
     }
-    text.extend_from_slice(b"\r\n")?;
-    Ok(text)
+    text.extend_from_slice(b"\r\n")
 }
 
 /// The key under which the request's pin stands.

@@ -9,7 +9,7 @@ use lb_desk_model::Event;
 use std::alloc::{AllocError, Global};
 
 /// The kinds of ends, by their numbers. Want of memory isn't among them: nothing makes it short here.
-const ENDS: [&str; 28] = [
+const ENDS: &[&str] = &[
     "relayed",
     "head too large",
     "bad head",
@@ -41,7 +41,7 @@ const ENDS: [&str; 28] = [
 ];
 
 /// What may be met on the way.
-const SIGHTS: [&str; 12] = [
+const SIGHTS: &[&str] = &[
     "relayed with a length",
     "relayed in chunks",
     "relayed behind leave to go on",
@@ -57,7 +57,7 @@ const SIGHTS: [&str; 12] = [
 ];
 
 /// How often each was met.
-#[derive(Debug, Drop)]
+#[derive(Drop)]
 pub(crate) struct Kinds {
     ends: [u64; 28],
     sights: [u64; 12],
@@ -93,14 +93,23 @@ impl Kinds {
     /// A line for each, with how often it came.
     pub(crate) fn text(&self, alloc: Global) -> Result<String, AllocError> {
         let mut text = String::new(alloc);
-        for (name, count) in ENDS.iter().zip(self.ends.iter()) {
-            text.push_str(&format!(in alloc; "{name}: {count}\n")?)?;
-        }
-        for (name, count) in SIGHTS.iter().zip(self.sights.iter()) {
-            text.push_str(&format!(in alloc; "{name}: {count}\n")?)?;
-        }
+        add_counts(alloc, &mut text, ENDS, &self.ends)?;
+        add_counts(alloc, &mut text, SIGHTS, &self.sights)?;
         Ok(text)
     }
+}
+
+/// Adds a line for each of these names, with how often it came.
+fn add_counts(
+    alloc: Global,
+    text: &mut String,
+    names: &[&str],
+    counts: &[u64],
+) -> Result<(), AllocError> {
+    for (name, count) in names.iter().zip(counts.iter()) {
+        text.push_str(&format!(in alloc; "{name}: {count}\n")?)?;
+    }
+    Ok(())
 }
 
 /// Counts one more of this number.
@@ -175,7 +184,7 @@ fn sights(round: &Round, owed: &Owed, served: &Served<'_>) -> [bool; 12] {
     let head = owed.request.len().saturating_sub(behind);
     [
         is_relayed && matches!(kind, Kind::Length(_)),
-        is_relayed && kind == Kind::Chunked,
+        is_relayed && matches!(kind, Kind::Chunked),
         is_relayed && waits,
         is_relayed && owed.pauses > 0,
         is_relayed && has_key,

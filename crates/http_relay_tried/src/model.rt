@@ -4,8 +4,9 @@
 //! the desk, the dial, leave to go on, head and body to the server, and the response.
 
 use crate::body::{Reach, reach_of};
-use crate::byte_wire::Peer;
-use crate::head_model::{Kind, forwarded, head_ends, key_of, kind_of, waits};
+use crate::byte_wire::{Peer, back, front};
+use crate::head::add_words;
+use crate::head_model::{Kind, add_forwarded, head_ends, key_of, kind_of, waits};
 use crate::owed::{End, Owed, Way};
 use crate::round::Round;
 use crate::site::{COST, Place};
@@ -19,43 +20,58 @@ use std::alloc::{AllocError, Global};
 
 const CONTINUE: &[u8] = b"HTTP/1.1 100 Continue\r\n\r\n";
 
+/// What stands behind the status of the relay's own answer.
+const ANSWER: &str = "\r\nContent-Length: 0\r\nConnection: close\r\n\r\n";
+
 /// What passes between two requests for a connection, in milliseconds.
 const PAUSE: u64 = 50;
 
 /// What is owed for the round.
 pub(crate) fn owed(alloc: Global, round: &Round) -> Result<Owed, AllocError> {
     let mut owed = Owed::nothing(alloc);
-    for due in head_ends(alloc, round)? {
-        add_way(alloc, round, &mut owed, End::unseen(due))?;
-    }
-    if !owed.ways.is_empty() {
-        return Ok(owed);
+    add_ways(alloc, round, &mut owed)?;
+    Ok(owed)
+}
+
+/// Adds each way in which the round may end, with what happens before that.
+fn add_ways(alloc: Global, round: &Round, owed: &mut Owed) -> Result<(), AllocError> {
+    let (end, other) = head_ends(round);
+    if let Some(due) = end {
+        add_way(alloc, round, owed, End::unseen(due))?;
+        return match other {
+            Some(due) => add_way(alloc, round, owed, End::unseen(due)),
+            None => Ok(()),
+        };
     }
     let place = round.site.place_for(round.head.version);
+    if let Some(due) = before_dial(alloc, round, place, owed)? {
+        return add_way(alloc, round, owed, End::unseen(due));
+    }
+    talk(alloc, round, place, owed)?;
+    let server = place.target.server;
+    let _ = add_event(round, owed, Event::Close(server), Reply::Closed)?;
+    Ok(())
+}
+
+/// The backend and its desk are asked. It ends so, where no connection comes of that.
+fn before_dial(
+    alloc: Global,
+    round: &Round,
+    place: &Place,
+    owed: &mut Owed,
+) -> Result<Option<Outcome>, AllocError> {
     if !place.takes {
-        let due = Outcome::Answered(Cause::NoBackend);
-        add_way(alloc, round, &mut owed, End::unseen(due))?;
-        return Ok(owed);
+        return Ok(Some(Outcome::Answered(Cause::NoBackend)));
     }
     owed.backend = Some(match round.head.version {
         Version::Http10 => 0,
         Version::Http11 => 1,
     });
     owed.told.push(round.start)?;
-    let due = match ask(alloc, round, place, &mut owed)? {
-        Some(due) => Some(due),
-        None => open(round, place, &mut owed)?,
-    };
-    if let Some(due) = due {
-        add_way(alloc, round, &mut owed, End::unseen(due))?;
-        return Ok(owed);
+    match ask(alloc, round, place, owed)? {
+        Some(due) => Ok(Some(due)),
+        None => open(round, place, owed),
     }
-    for end in talk(alloc, round, place, &mut owed)? {
-        add_way(alloc, round, &mut owed, end)?;
-    }
-    let server = place.target.server;
-    let _ = add_event(round, &mut owed, Event::Close(server), Reply::Closed)?;
-    Ok(owed)
 }
 
 /// Adds an event to those that are owed, or says how it is refused.
@@ -89,15 +105,15 @@ fn ask(
         Asked::NoServer => Reply::Refused(Refusal::NoServer),
         Asked::NoSuchServer => Reply::Refused(Refusal::NoSuchServer),
     };
+    if let Some(refused) = add_event(round, owed, Event::Expire(moment), Reply::Expired(0))? {
+        return Ok(Some(Outcome::Answered(Cause::RequestRefused(refused))));
+    }
     let request = Request {
         key: key_of(alloc, round, place)?,
         rules: RuleList::new(Vec::new(alloc)),
         cost: COST,
         moment,
     };
-    if let Some(refused) = add_event(round, owed, Event::Expire(moment), Reply::Expired(0))? {
-        return Ok(Some(Outcome::Answered(Cause::RequestRefused(refused))));
-    }
     if let Some(refused) = add_event(round, owed, Event::Serve(request), reply)? {
         return Ok(Some(Outcome::Answered(Cause::RequestRefused(refused))));
     }
@@ -144,13 +160,8 @@ fn open(round: &Round, place: &Place, owed: &mut Owed) -> Result<Option<Outcome>
     Ok(Some(Outcome::Answered(Cause::QueueOver)))
 }
 
-/// How the talk with the server ends.
-fn talk(
-    alloc: Global,
-    round: &Round,
-    place: &Place,
-    owed: &mut Owed,
-) -> Result<Vec<End>, AllocError> {
+/// Adds how the talk with the server ends.
+fn talk(alloc: Global, round: &Round, place: &Place, owed: &mut Owed) -> Result<(), AllocError> {
     owed.dial = Some((place.target.endpoint, place.target.limits));
     match round.dial {
         Ok(server) => {
@@ -159,52 +170,64 @@ fn talk(
         }
         Err(fault) => {
             let due = Outcome::Answered(Cause::NotDialled(fault));
-            Ok(vec![in alloc; End::unseen(due)]?)
+            add_way(alloc, round, owed, End::unseen(due))
         }
     }
 }
 
-/// All that the server would get, whose head has so many bytes.
-fn request_of(alloc: Global, round: &Round, place: &Place) -> Result<(Vec<u8>, usize), AllocError> {
-    let mut request = forwarded(alloc, round, place)?;
-    let head = request.len();
-    for byte in round.input.iter().skip(round.text.bytes.len()) {
-        request.push(*byte)?;
-    }
-    Ok((request, head))
-}
-
-/// How request and response pass.
+/// Adds how the passing of request and response ends.
 fn exchange(
     alloc: Global,
     round: &Round,
     place: &Place,
     server: Peer,
     owed: &mut Owed,
-) -> Result<Vec<End>, AllocError> {
+) -> Result<(), AllocError> {
     let kind = kind_of(&round.head);
     let invited = waits(&round.head, kind);
-    let (request, head) = request_of(alloc, round, place)?;
-    owed.request = request;
+    add_forwarded(round, place, &mut owed.request)?;
+    let head = owed.request.len();
+    let behind = back(&round.input, round.text.bytes.len());
+    owed.request.extend_from_slice(behind)?;
     if let Some(end) = early_end(round, server, head, invited) {
-        return Ok(vec![in alloc; end]?);
+        return add_way(alloc, round, owed, end);
     }
-    let mut ends = Vec::new(alloc);
-    for (due, (least, most)) in body_ends(alloc, round, server, head, kind)? {
-        let sent = (head.saturating_add(least), head.saturating_add(most));
-        let ((due, copied), wanted) = match due {
-            Some(due) => ((due, 0), round.came_behind()),
-            None => (response_end(round, server, invited), most),
-        };
-        ends.push(End {
-            due,
-            invited,
-            copied,
-            sent,
-            wanted,
-        })?;
+    let (bad, passed) = body_ends(round, server, head, kind);
+    if let Some(body) = bad {
+        add_way(
+            alloc,
+            round,
+            owed,
+            end_of(round, server, head, invited, body),
+        )?;
     }
-    Ok(ends)
+    if let Some(body) = passed {
+        add_way(
+            alloc,
+            round,
+            owed,
+            end_of(round, server, head, invited, body),
+        )?;
+    }
+    Ok(())
+}
+
+/// How it ends behind this end of the body, to a server that took a head of so many bytes.
+fn end_of(round: &Round, server: Peer, head: usize, invited: bool, body: BodyEnd) -> End {
+    let ((due, copied), wanted) = match body.due {
+        Some(due) => ((due, 0), round.came_behind()),
+        None => (response_end(round, server, invited), body.most),
+    };
+    End {
+        due,
+        invited,
+        copied,
+        sent: (
+            head.saturating_add(body.least),
+            head.saturating_add(body.most),
+        ),
+        wanted,
+    }
 }
 
 /// How it ends before the body, if it does: the client doesn't take leave to go on, or the server doesn't take the head.
@@ -225,46 +248,63 @@ fn early_end(round: &Round, server: Peer, head: usize, invited: bool) -> Option<
     })
 }
 
-/// How the body ends, to which a server comes that took a head of so many bytes: with a fault, or well. With each end stand the least
-/// and the most bytes of the body that went out.
+/// How a body ends: with a fault, or well.
+#[derive(Clone, Copy)]
+struct BodyEnd {
+    due: Option<Outcome>,
+    /// The least and the most bytes of it that went out.
+    least: usize,
+    most: usize,
+}
+
+/// How the body ends, to which a server comes that took a head of so many bytes: at a bad part, and else.
 fn body_ends(
-    alloc: Global,
     round: &Round,
     server: Peer,
     head: usize,
     kind: Kind,
-) -> Result<Vec<(Option<Outcome>, (usize, usize))>, AllocError> {
+) -> (Option<BodyEnd>, Option<BodyEnd>) {
+    let (passed, reach) = reach_in(round, kind);
+    let room = server.takes.saturating_sub(head);
+    let most = passed.min(room);
+    let bad = BodyEnd {
+        due: Some(Outcome::Answered(Cause::BadChunk)),
+        // Of what stands before a bad part some may wait for it, so that a server may not be asked to take all.
+        least: 0,
+        most,
+    };
+    let due = match reach {
+        _ if room < passed => Some(Outcome::Answered(Cause::BodyNotTaken(server.refuses))),
+        Reach::Short | Reach::BadOrShort => Some(cut(round)),
+        Reach::Whole | Reach::Bad => None,
+    };
+    let least = most;
+    let end = BodyEnd { due, least, most };
+    match reach {
+        Reach::Whole | Reach::Short => (None, Some(end)),
+        Reach::BadOrShort => (Some(bad), Some(end)),
+        Reach::Bad if room < passed => (Some(bad), Some(end)),
+        Reach::Bad => (Some(bad), None),
+    }
+}
+
+/// How much of the body can be passed on, and what ends it.
+fn reach_in(round: &Round, kind: Kind) -> (usize, Reach) {
     let came = round.came_behind();
-    let (passed, reach) = match kind {
+    match kind {
         Kind::Empty => (0, Reach::Whole),
         Kind::Length(length) if came as u64 >= length => (length as usize, Reach::Whole),
         Kind::Length(_) => (came, Reach::Short),
         Kind::Chunked => reach_of(&round.parts, came),
-    };
-    let room = server.takes.saturating_sub(head);
-    let cut = match round.client.then {
+    }
+}
+
+/// How it ends where the client is cut off within its body.
+fn cut(round: &Round) -> Outcome {
+    match round.client.then {
         None => Outcome::Answered(Cause::BodyCutShort),
         Some(fault) => Outcome::Dropped(DropCause::BodyNotRead(fault)),
-    };
-    let mut ends = Vec::new(alloc);
-    // Of what stands before a bad part some may wait for it, so that a server may not be asked to take all.
-    if reach == Reach::Bad || reach == Reach::BadOrShort {
-        ends.push((
-            Some(Outcome::Answered(Cause::BadChunk)),
-            (0, passed.min(room)),
-        ))?;
     }
-    if room < passed {
-        let due = Outcome::Answered(Cause::BodyNotTaken(server.refuses));
-        ends.push((Some(due), (room, room)))?;
-        return Ok(ends);
-    }
-    match reach {
-        Reach::Whole => ends.push((None, (passed, passed)))?,
-        Reach::Short | Reach::BadOrShort => ends.push((Some(cut), (passed, passed)))?,
-        Reach::Bad => {}
-    }
-    Ok(ends)
 }
 
 /// How the response ends, and how many bytes of it the client is sent.
@@ -286,25 +326,18 @@ fn response_end(round: &Round, server: Peer, invited: bool) -> (Outcome, usize) 
     (due, sent)
 }
 
-/// Adds the way that leads through this end: what the client got, as far as it took it, with the relay's own answer where that is due.
+/// Adds the way that leads through this end.
 fn add_way(alloc: Global, round: &Round, owed: &mut Owed, end: End) -> Result<(), AllocError> {
     let mut got = Vec::new(alloc);
-    if end.invited {
-        got.extend_from_slice(CONTINUE)?;
-    }
-    for byte in round.response.iter().take(end.copied) {
-        got.push(*byte)?;
-    }
-    let mut outcome = end.due;
-    if let Outcome::Answered(cause) = end.due {
-        got.extend_from_slice(b"HTTP/1.1 ")?;
-        got.extend_from_slice(status(cause).as_bytes())?;
-        got.extend_from_slice(b"\r\nContent-Length: 0\r\nConnection: close\r\n\r\n")?;
-        if round.client.takes < got.len() {
-            outcome = Outcome::Dropped(DropCause::AnswerNotTaken(cause, round.client.refuses));
+    add_got(round, end, &mut got)?;
+    let takes = round.client.takes;
+    let outcome = match end.due {
+        Outcome::Answered(cause) if takes < got.len() => {
+            Outcome::Dropped(DropCause::AnswerNotTaken(cause, round.client.refuses))
         }
-    }
-    got.truncate(round.client.takes);
+        due => due,
+    };
+    got.truncate(takes);
     owed.ways.push(Way {
         outcome,
         got,
@@ -312,6 +345,18 @@ fn add_way(alloc: Global, round: &Round, owed: &mut Owed, end: End) -> Result<()
         given: most_given(round, end.wanted),
     })?;
     Ok(())
+}
+
+/// Adds what the client would get, with the relay's own answer where that is due.
+fn add_got(round: &Round, end: End, got: &mut Vec<u8>) -> Result<(), AllocError> {
+    if end.invited {
+        got.extend_from_slice(CONTINUE)?;
+    }
+    got.extend_from_slice(front(&round.response, end.copied))?;
+    match end.due {
+        Outcome::Answered(cause) => add_words(got, &["HTTP/1.1 ", status(cause), ANSWER]),
+        _ => Ok(()),
+    }
 }
 
 /// How many bytes the client gives at most where so many are wanted behind its head: none behind these, but for what comes with the

@@ -6,7 +6,7 @@ use lb_desk_model::Entry;
 use std::alloc::Global;
 
 /// How a request ends before an answer of the relay's own goes out.
-#[derive(Clone, Copy, Debug, PartialEq, Eq)]
+#[derive(Clone, Copy)]
 pub(crate) struct End {
     pub(crate) due: Outcome,
     /// The client was told to go on, if it took that.
@@ -33,7 +33,7 @@ impl End {
 }
 
 /// An end with what the client got.
-#[derive(Debug, Drop)]
+#[derive(Drop)]
 pub(crate) struct Way {
     pub(crate) outcome: Outcome,
     pub(crate) got: Vec<u8>,
@@ -43,7 +43,7 @@ pub(crate) struct Way {
 }
 
 /// What is owed for a round.
-#[derive(Debug, Drop)]
+#[derive(Drop)]
 pub(crate) struct Owed {
     /// The ways in which it may end: mostly one.
     pub(crate) ways: Vec<Way>,

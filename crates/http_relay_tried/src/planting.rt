@@ -6,7 +6,7 @@ use lb_acl::{KeyLen, TableType};
 use std::net::Ipv4Addr;
 
 /// What is otherwise where the round is served.
-#[derive(Clone, Copy, Debug, PartialEq, Eq)]
+#[derive(Clone, Copy, Debug)]
 pub(crate) enum Plant {
     /// The client's last byte doesn't come.
     LostByte,

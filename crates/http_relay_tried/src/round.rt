@@ -20,7 +20,7 @@ pub(crate) struct Desk {
 }
 
 /// One request and all that it meets.
-#[derive(Debug, Drop)]
+#[derive(Drop)]
 pub(crate) struct Round {
     pub(crate) site: Site,
     /// The client's address, as it is spelled and as it is.

@@ -10,7 +10,7 @@ use lb_desk_ports::{Filed, OpenGate, PortScript, ScriptedClock, ScriptedPort, Sh
 use std::alloc::{AllocError, Global};
 
 /// What became of a round.
-#[derive(Debug, Drop)]
+#[derive(Drop)]
 pub(crate) struct Served<'a> {
     pub(crate) outcome: Outcome,
     pub(crate) client: ByteWire<'a>,
@@ -20,7 +20,7 @@ pub(crate) struct Served<'a> {
 }
 
 /// In what it differs from what is owed.
-#[derive(Clone, Copy, Debug, PartialEq, Eq)]
+#[derive(Clone, Copy, Debug)]
 pub(crate) enum Difference {
     /// It ended in none of the ways, by the outcome, by what the client got, and by what the server got.
     End,
@@ -53,6 +53,10 @@ pub(crate) fn serve<'a, R>(
     script: &'a PortScript<'a>,
     room: &mut [u8; HEAD_ROOM],
 ) -> Result<Served<'a>, AllocError> {
+    let mut ports = vec![in alloc;
+        ScriptedPort::new(alloc, script),
+        ScriptedPort::new(alloc, script),
+    ]?;
     let mut worker = Worker {
         clock: ScriptedClock::new(alloc, round.start),
         gate: OpenGate,
@@ -62,9 +66,6 @@ pub(crate) fn serve<'a, R>(
         wire: ByteWire::new(alloc, &round.input, round.client),
         source: round.address,
     };
-    let mut ports = Vec::new(alloc);
-    ports.push(ScriptedPort::new(alloc, script))?;
-    ports.push(ScriptedPort::new(alloc, script))?;
     let outcome = serve_one(
         rt,
         alloc,

@@ -15,7 +15,7 @@ use std::alloc::{AllocError, Global};
 pub(crate) const COST: u16 = 3;
 
 /// A backend.
-#[derive(Debug, Drop)]
+#[derive(Drop)]
 pub(crate) struct Place {
     /// It takes heads.
     pub(crate) takes: bool,
@@ -52,7 +52,7 @@ impl Place {
 }
 
 /// A configuration. The first backend takes the heads of HTTP/1.0, the second those of HTTP/1.1.
-#[derive(Debug, Drop)]
+#[derive(Drop)]
 pub(crate) struct Site {
     pub(crate) first: Place,
     pub(crate) second: Place,

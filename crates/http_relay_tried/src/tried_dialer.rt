@@ -10,7 +10,7 @@ use std::alloc::Global;
 
 /// A dialer that gives the same answer to each dial. It keeps its dials and the wires that it got back, and says where memory for
 /// these was short.
-#[derive(Debug, Drop)]
+#[derive(Drop)]
 pub(crate) struct TriedDialer<'a> {
     alloc: Global,
     response: &'a [u8],

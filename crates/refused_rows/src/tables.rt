@@ -2,7 +2,7 @@
 
 use crate::farm::{A, B, Hasher, server};
 use crate::marks::{begin, end, tell};
-use dual_cert::read_plan;
+use dual_cert::{Plan, read_plan};
 use lb_types::{Moment, ServerSet, TableSettings};
 use pin_set::{PinCount, PinId, PinKey, TablePin};
 use pin_table::Table;
@@ -243,14 +243,18 @@ fn goes(rt: &impl Abort, alloc: Global, table: &mut Table<Hasher>) -> Result<(),
 fn counts_of_pins(rt: HostRuntime) -> Result<(), Fail> {
     let alloc = rt.alloc();
     let table = table(alloc, 4)?;
-    let before = Stand::of(alloc, &table)?;
+    counts(&rt, alloc, &table)
+}
+
+fn counts(rt: &impl Abort, alloc: Global, table: &Table<Hasher>) -> Result<(), Fail> {
+    let before = Stand::of(alloc, table)?;
     begin(alloc)?;
     let told = table.pin_counts(alloc);
     end(alloc)?;
     let counts = match told {
         Ok(counts) => counts,
         Err(_) => {
-            is_as_before(&rt, alloc, &table, &before)?;
+            is_as_before(rt, alloc, table, &before)?;
             table.pin_counts(alloc)?
         }
     };
@@ -263,19 +267,28 @@ fn counts_of_pins(rt: HostRuntime) -> Result<(), Fail> {
 fn pins_that_a_plan_sends(rt: HostRuntime) -> Result<(), Fail> {
     let alloc = rt.alloc();
     let plan = read_plan(alloc, PLAN)?;
-    let usable = ServerSet::empty().with(server(A)).with(server(B));
     let mut table = table(alloc, 4)?;
-    let before = Stand::of(alloc, &table)?;
+    sends(&rt, alloc, &mut table, &plan)
+}
+
+fn sends(
+    rt: &impl Abort,
+    alloc: Global,
+    table: &mut Table<Hasher>,
+    plan: &Plan,
+) -> Result<(), Fail> {
+    let usable = ServerSet::empty().with(server(A)).with(server(B));
+    let before = Stand::of(alloc, table)?;
     begin(alloc)?;
-    let told = placed(alloc, &mut table, usable, &plan);
+    let told = placed(alloc, table, usable, plan);
     end(alloc)?;
     let fits = match told {
         Ok(fits) => fits,
         Err(_) => {
-            is_as_before(&rt, alloc, &table, &before)?;
-            placed(alloc, &mut table, usable, &plan)?
+            is_as_before(rt, alloc, table, &before)?;
+            placed(alloc, table, usable, plan)?
         }
     };
     assert!(rt; fits, "not a plan for these pins");
-    has(&rt, alloc, &table, &[(0, B), (1, A), (2, A), (3, B)])
+    has(rt, alloc, table, &[(0, B), (1, A), (2, A), (3, B)])
 }
