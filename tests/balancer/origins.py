@@ -78,8 +78,9 @@ Handler = Callable[[Talk], None]
 class Origin:
     """A server at a port of this machine. Each connection has a thread of its own."""
 
-    def __init__(self, port: int, handler: Handler, keeps: bool = True) -> None:
+    def __init__(self, port: int, handler: Handler, keeps: bool = True, host: str = HOST) -> None:
         """Where it doesn't keep what comes, it may serve for hours."""
+        self.host = host
         self.port = port
         self.handler = handler
         self.keeps = keeps
@@ -90,7 +91,7 @@ class Origin:
         """Begins to listen."""
         listener = socket.socket()
         listener.setsockopt(socket.SOL_SOCKET, socket.SO_REUSEADDR, 1)
-        listener.bind((HOST, self.port))
+        listener.bind((self.host, self.port))
         listener.listen(4096)
         self.listener = listener
         threading.Thread(target=self.accept_all, args=(listener,), daemon=True).start()

@@ -4,6 +4,7 @@ from __future__ import annotations
 
 import re
 
+from .answers import own
 from .cases import case, expect_equal, wait_until
 from .clients import get
 from .farms import LIMITS, TABLE, Farm, ends_well, listen, server
@@ -37,6 +38,23 @@ def a_key_stays_at_its_server_until_a_plan_moves_it(farm: Farm) -> None:
 @case
 def a_journal_of_three_events_forgets_and_counts_on(farm: Farm) -> None:
     pins_move(farm, "tune.journal 3")
+
+
+@case
+def a_backend_without_servers_refuses_each_request_and_plans_for_nobody(farm: Farm) -> None:
+    port = farm.port()
+    balancer = farm.start(listen(port, *TABLE))
+    for fields in (["x-id: k1"], [], ["x-id: k1"]):
+        expect_equal(f"the answer to {fields}", get(port, *fields), own(503))
+    # No pin moved, so that the version still stands.
+    for _ in range(2):
+        expect_equal("a plan", balancer.tell("plan backend web"), "pins 0 unplaced 0 moved 0\n\n")
+    expect_equal("the plan", balancer.tell("show plan web"), "stickyplan 1\nversion 0\nend\n\n")
+    planned = ["snapshot -> sheet version 0 pins 0", "install version 0 -> installed pins 0 unplaced 0 moved 0"]
+    refused = ["expire N -> expired 0", "serve N k1 -> 80 NoServer"]
+    bare = ["expire N -> expired 0", "serve N - -> 80 NoServer"]
+    expect_equal("the journal", balancer.events("web"), refused + bare + refused + 2 * planned)
+    ends_well(balancer)
 
 
 @case

@@ -12,13 +12,18 @@ from concurrent.futures import ThreadPoolExecutor
 from dataclasses import dataclass
 from pathlib import Path
 
-from . import checks, commands, crowds, faults, forwarding, limits, operators, pins, queues, slow, slowness, smuggling, soak, starts, wholes
+from . import (
+    checks, commands, crowds, faults, forwarding, limits, operators, pins, queues, rules, slow, slowness, smuggling, soak, starts, web_farm,
+    wholes,
+)  # fmt: skip
 from .cases import CASES, Case, Failure
 from .farms import Farm, end_all
 
 ROOT = Path(__file__).resolve().parent.parent.parent
 PROGRAM = ROOT / "crates" / "stickylb" / "out" / "stickylb"
-GROUPS = (checks, commands, crowds, faults, forwarding, limits, operators, pins, queues, slowness, smuggling, starts, wholes)
+GROUPS = (
+    checks, commands, crowds, faults, forwarding, limits, operators, pins, queues, rules, slowness, smuggling, starts, web_farm, wholes,
+)  # fmt: skip
 
 
 @dataclass

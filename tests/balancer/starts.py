@@ -93,6 +93,13 @@ def a_configurations_fault_is_printed_as_check_prints_it(farm: Farm) -> None:
 
 
 @case
+def a_configurations_fault_is_told_although_its_address_is_taken(farm: Farm) -> None:
+    path, taken = farm.folder / "bad.cfg", farm.origin()
+    path.write_text(f"listen web\n  bind {HOST}:{taken.port}\n  balance uri\n")
+    expect_equal("the end", run_words(farm, "run", "-f", str(path)), Ending(1, "line 3: 29 LeftOut uri\n", ""))
+
+
+@case
 def warnings_of_a_configuration_are_not_printed(farm: Farm) -> None:
     port = farm.port()
     balancer = farm.start(listen(port, "log global", "option httplog", *LIMITS, server("a", farm.origin())), ("daemon", "nbthread 4"))

@@ -4,7 +4,7 @@ from __future__ import annotations
 
 from .answers import CONTINUE, own
 from .cases import case, expect, expect_equal
-from .clients import Client
+from .clients import Client, ask, at_once
 from .farms import LIMITS, Farm, ends_well, listen, server
 from .origins import Origin, Talk, response
 
@@ -68,6 +68,21 @@ BODIES = [
     (b"2\r\nhi\r\n0\r\n", b"Xxxxx: 1\r\n", 100, b"\r\n"),
     (b"0\r\n", b"X:\n", 100, b"\n"),
     (b"0\r\nX: ", b"1\r\nX: ", 99, b"\r\n\r\n"),
+]
+
+
+# A body ends inside a line that could end at the limit, or only beyond it: a size line with its CR LF, a field with its line feed and that
+# of the empty line, and a field that is one too many. The last word says whether more bytes can still make it a body.
+ENDS = [
+    (b"0;", b"x", 252, b"", True),
+    (b"0;", b"x", 252, b"\r", True),
+    (b"0;", b"x", 253, b"", False),
+    (b"0\r\nX:", b"x", 8188, b"", True),
+    (b"0\r\nX:", b"x", 8189, b"", False),
+    (b"0\r\n", b"x", 8189, b"", True),
+    (b"0\r\n", b"x", 8190, b"", False),
+    (b"0\r\n", b"X:\n", 100, b"\r", True),
+    (b"0\r\n", b"X:\n", 100, b"Y", False),
 ]
 
 
@@ -146,4 +161,23 @@ def a_body_at_its_limits_is_passed_on_and_of_one_beyond_a_beginning(farm: Farm) 
                     expect_equal(f"what the server got of {told}", received, whole)
                 else:
                     expect(f"a beginning of {told}", whole.startswith(received) and len(received) < len(whole))
+    ends_well(balancer)
+
+
+@case
+def a_body_that_can_become_none_is_refused_with_the_byte_that_shows_it(farm: Farm) -> None:
+    port = farm.port()
+    # A client that waits with a body that may still become one is let go, and one whose body can't is told before.
+    limits = ("timeout client 2s", "timeout connect 20s", "timeout server 20s")
+    balancer = farm.start(listen(port, *limits, server("a", farm.origin())))
+
+    def judge(row: tuple[bytes, bytes, int, bytes, bool]) -> None:
+        front, middle, times, end, is_open = row
+        told = f"{front!r}, {times} times {middle!r} and {end!r}"
+        data = POST + CHUNKED + b"\r\n" + front + times * middle + end
+        expect_equal(f"the answer to {told}, and the client ends", ask(port, data, ends=True), own(400))
+        answers = at_once(lambda sizes: asked(port, data, sizes), ((), (1,)))
+        expect_equal(f"the answers to {told}, and the client waits", answers, 2 * [b"" if is_open else own(400)])
+
+    at_once(judge, ENDS)
     ends_well(balancer)

@@ -10,29 +10,27 @@ pub(crate) type ServerRow = (&'static [u8], Option<u32>);
 /// A group by count, place, permitted servers and cost.
 pub(crate) type GroupRow = (u32, Option<u8>, &'static [u8], u16);
 
-pub(crate) fn is_server_of(found: &Server, name: &[u8], capacity: Option<u32>) -> bool {
+pub(crate) fn is_server(found: &Server, name: &[u8], capacity: Option<u32>) -> bool {
     found.name.as_bytes() == name && found.capacity == capacity
 }
 
 pub(crate) fn are_servers(found: &[Server], wanted: &[ServerRow]) -> bool {
+    for (server, row) in found.iter().zip(wanted) {
+        if !is_server(server, row.0, row.1) {
+            return false;
+        }
+    }
     found.len() == wanted.len()
-        && found
-            .iter()
-            .zip(wanted)
-            .all(|(server, row)| is_server_of(server, row.0, row.1))
-}
-
-fn is_group(found: &Group, wanted: &GroupRow) -> bool {
-    let (count, place, permitted, cost) = *wanted;
-    found.count == count && found.kind == kind(place_of(place), set_of(permitted), cost)
 }
 
 pub(crate) fn are_groups(found: &[Group], wanted: &[GroupRow]) -> bool {
+    for (group, row) in found.iter().zip(wanted) {
+        let kind = kind(row.1, row.2, row.3);
+        if group.count != row.0 || group.kind != kind {
+            return false;
+        }
+    }
     found.len() == wanted.len()
-        && found
-            .iter()
-            .zip(wanted)
-            .all(|(group, row)| is_group(group, row))
 }
 
 /// The set of these servers.
@@ -51,10 +49,10 @@ pub(crate) fn place_of(server: Option<u8>) -> Place {
     }
 }
 
-pub(crate) fn kind(place: Place, permitted: ServerSet, cost: u16) -> PinKind {
+pub(crate) fn kind(place: Option<u8>, permitted: &[u8], cost: u16) -> PinKind {
     PinKind {
-        place,
-        permitted,
+        place: place_of(place),
+        permitted: set_of(permitted),
         cost,
     }
 }

@@ -1,140 +1,208 @@
-use crate::site::{Call, SERVER, Served, Site, its_server, open_port, port_script, serve, target};
+use crate::site::{
+    ANSWERS, BAD_GATEWAY, BROKEN, Call, GATEWAY_TIMEOUT, INTERNAL_SERVER_ERROR, LATE, Owed,
+    REQUEST_TIMEOUT, RESPONSE, SERVER, SERVICE_UNAVAILABLE, is_owed, its_server, open_port,
+    port_script,
+};
 use http_relay_dial::DialScript;
-use http_relay_head::HEAD_ROOM;
-use http_relay_serve::{Cause, Outcome};
-use http_relay_wire::{Script, WireFault};
-use lb_acl::{KeyLen, KeySample, StickOn, TableType};
+use http_relay_serve::{Cause, DropCause, Outcome};
+use http_relay_wire::Script;
 use lb_desk_model::ServedAs;
-use lb_desk_ports::{Asked, PortScript, Refused, ScriptedOpening};
+use lb_desk_ports::{Asked, Refused, ScriptedOpening};
 use lb_types::ServerId;
 use std::test::Fail;
 
-pub(crate) const RESPONSE: &[u8] = b"HTTP/1.1 200 OK\r\n\r\nok";
+const POST: &[u8] = b"POST / HTTP/1.1\r\nContent-Length: 2\r\n\r\nhi";
 
-pub(crate) const POST: &[u8] = b"POST / HTTP/1.1\r\nContent-Length: 2\r\n\r\nhi";
+const WAITING: &[u8] = b"POST / HTTP/1.1\r\nContent-Length: 2\r\nExpect: 100-continue\r\n\r\n";
 
-pub(crate) const BAD_REQUEST: &[u8] =
-    b"HTTP/1.1 400 Bad Request\r\nContent-Length: 0\r\nConnection: close\r\n\r\n";
+const CONTINUE: &[u8] = b"HTTP/1.1 100 Continue\r\n\r\n";
 
-pub(crate) const REQUEST_TIMEOUT: &[u8] =
-    b"HTTP/1.1 408 Request Timeout\r\nContent-Length: 0\r\nConnection: close\r\n\r\n";
+const SMOOTH: Script<'static> = Script::SMOOTH;
 
-const INTERNAL_SERVER_ERROR: &[u8] =
-    b"HTTP/1.1 500 Internal Server Error\r\nContent-Length: 0\r\nConnection: close\r\n\r\n";
+// The first read of a wire fails so, or the second, or the first write.
+const READ_BROKEN: Script<'static> = Script {
+    failing_read: Some((0, BROKEN)),
+    ..SMOOTH
+};
 
-const BAD_GATEWAY: &[u8] =
-    b"HTTP/1.1 502 Bad Gateway\r\nContent-Length: 0\r\nConnection: close\r\n\r\n";
+const READ_LATE: Script<'static> = Script {
+    failing_read: Some((0, LATE)),
+    ..SMOOTH
+};
 
-const SERVICE_UNAVAILABLE: &[u8] =
-    b"HTTP/1.1 503 Service Unavailable\r\nContent-Length: 0\r\nConnection: close\r\n\r\n";
+const THEN_READ_BROKEN: Script<'static> = Script {
+    failing_read: Some((1, BROKEN)),
+    ..SMOOTH
+};
 
-const GATEWAY_TIMEOUT: &[u8] =
-    b"HTTP/1.1 504 Gateway Timeout\r\nContent-Length: 0\r\nConnection: close\r\n\r\n";
+const THEN_READ_LATE: Script<'static> = Script {
+    failing_read: Some((1, LATE)),
+    ..SMOOTH
+};
 
-const LONG: &[u8] = &[b'a'; HEAD_ROOM];
+const WRITE_BROKEN: Script<'static> = Script {
+    failing_write: Some((0, BROKEN)),
+    ..SMOOTH
+};
 
-pub(crate) const BROKEN: WireFault = WireFault::Broken;
-
-pub(crate) const LATE: WireFault = WireFault::Timeout;
-
-// The server sends its response, and nothing fails.
-const ANSWERS: DialScript<'static> = Ok((RESPONSE, Script::SMOOTH));
-
-// The server sends this, and its wire behaves so.
-fn sends(bytes: &'static [u8], script: Script<'static>) -> DialScript<'static> {
-    Ok((bytes, script))
-}
-
-// This read of a wire fails so.
-pub(crate) const fn failing_read(at: u64, fault: WireFault) -> Script<'static> {
-    Script {
-        failing_read: Some((at, fault)),
-        ..Script::SMOOTH
-    }
-}
-
-// This write to a wire fails so.
-pub(crate) const fn failing_write(at: u64, fault: WireFault) -> Script<'static> {
-    Script {
-        failing_write: Some((at, fault)),
-        ..Script::SMOOTH
-    }
-}
+const WRITE_LATE: Script<'static> = Script {
+    failing_write: Some((0, LATE)),
+    ..SMOOTH
+};
 
 // The first write to a wire takes so many bytes, and the next one comes too late. Of a good request the server gets 57 bytes of head
 // and 2 of body.
-const fn cut_write(taken: usize) -> Script<'static> {
-    Script {
-        most_written: taken,
-        ..failing_write(1, LATE)
-    }
-}
+const TAKES_56: Script<'static> = Script {
+    most_written: 56,
+    failing_write: Some((1, LATE)),
+    ..SMOOTH
+};
 
-// The backend takes the head, and the request waits so long for a connection.
-pub(crate) fn site<'a>(pattern: &'a StickOn) -> Site<'a> {
-    Site {
-        takes: true,
-        target: target(Some(0)),
-        forwards_address: false,
-        pattern,
-    }
-}
+const TAKES_57: Script<'static> = Script {
+    most_written: 57,
+    failing_write: Some((1, LATE)),
+    ..SMOOTH
+};
 
-pub(crate) fn source() -> StickOn {
-    StickOn {
-        sample: KeySample::Source,
-        table: TableType::Ip,
-    }
-}
+// What the client sends, how its wire behaves, how the server does, the outcome, and what the client gets.
+type Row = (
+    &'static [u8],
+    Script<'static>,
+    DialScript<'static>,
+    Outcome,
+    &'static [u8],
+);
 
-// Whether the relay answered for this cause, and gave its slots back.
-fn has_answered(served: &Served<'_>, cause: Cause, text: &[u8]) -> bool {
-    served.outcome == Outcome::Answered(cause)
-        && served.client.written() == text
-        && served.gave_back_its_slots()
-}
-
-const BAD_REQUESTS: &[(&[u8], Cause)] = &[
-    (LONG, Cause::HeadTooLarge),
+const ROWS: &[Row] = &[
+    // A good request to which the server gives no response.
     (
-        b"GET / HTTP/1.1\r\nConnection: host\r\nHost: x\r\n\r\n",
-        Cause::BadHead,
+        POST,
+        SMOOTH,
+        Err(LATE),
+        Outcome::Answered(Cause::NotDialled(LATE)),
+        SERVICE_UNAVAILABLE,
     ),
     (
-        b"POST / HTTP/1.1\r\nContent-Length: 3\r\nTransfer-Encoding: chunked\r\n\r\n",
-        Cause::BothLengths,
-    ),
-    (b"GET / HTT", Cause::HeadCutShort),
-    (b"", Cause::HeadCutShort),
-    (
-        b"POST / HTTP/1.1\r\nContent-Length: 3\r\n\r\nhi",
-        Cause::BodyCutShort,
+        POST,
+        SMOOTH,
+        Ok((RESPONSE, WRITE_BROKEN)),
+        Outcome::Answered(Cause::HeadNotTaken(BROKEN)),
+        BAD_GATEWAY,
     ),
     (
-        b"POST / HTTP/1.1\r\nTransfer-Encoding: chunked\r\n\r\nzz\r\n",
-        Cause::BadChunk,
+        POST,
+        SMOOTH,
+        Ok((RESPONSE, TAKES_56)),
+        Outcome::Answered(Cause::HeadNotTaken(LATE)),
+        BAD_GATEWAY,
+    ),
+    (
+        POST,
+        SMOOTH,
+        Ok((RESPONSE, TAKES_57)),
+        Outcome::Answered(Cause::BodyNotTaken(LATE)),
+        BAD_GATEWAY,
+    ),
+    (
+        POST,
+        SMOOTH,
+        Ok((b"", SMOOTH)),
+        Outcome::Answered(Cause::NoResponse),
+        BAD_GATEWAY,
+    ),
+    (
+        POST,
+        SMOOTH,
+        Ok((RESPONSE, READ_BROKEN)),
+        Outcome::Answered(Cause::ResponseBroken),
+        BAD_GATEWAY,
+    ),
+    (
+        POST,
+        SMOOTH,
+        Ok((RESPONSE, READ_LATE)),
+        Outcome::Answered(Cause::ResponseTimedOut),
+        GATEWAY_TIMEOUT,
+    ),
+    // A client that is too slow with its head, and clients that get nothing more, with what they got before.
+    (
+        POST,
+        READ_LATE,
+        ANSWERS,
+        Outcome::Answered(Cause::HeadTimedOut),
+        REQUEST_TIMEOUT,
+    ),
+    (
+        POST,
+        READ_BROKEN,
+        ANSWERS,
+        Outcome::Dropped(DropCause::HeadBroken),
+        b"",
+    ),
+    (
+        WAITING,
+        WRITE_BROKEN,
+        ANSWERS,
+        Outcome::Dropped(DropCause::ContinueNotTaken(BROKEN)),
+        b"",
+    ),
+    (
+        WAITING,
+        THEN_READ_LATE,
+        ANSWERS,
+        Outcome::Dropped(DropCause::BodyNotRead(LATE)),
+        CONTINUE,
+    ),
+    (
+        POST,
+        SMOOTH,
+        Ok((RESPONSE, THEN_READ_BROKEN)),
+        Outcome::Dropped(DropCause::ResponseCutShort(BROKEN)),
+        RESPONSE,
+    ),
+    (
+        POST,
+        WRITE_LATE,
+        ANSWERS,
+        Outcome::Dropped(DropCause::ResponseNotTaken(LATE)),
+        b"",
+    ),
+    (
+        b"GET /\r\n\r\n",
+        WRITE_BROKEN,
+        ANSWERS,
+        Outcome::Dropped(DropCause::AnswerNotTaken(Cause::BadHead, BROKEN)),
+        b"",
     ),
 ];
 
-// What stands in the client's bytes.
+// The connection that was got is given back in each case.
 #[test]
-fn a_bad_request_is_answered_400(rt: HostRuntime) -> Result<(), Fail> {
-    let pattern = source();
-    for (input, cause) in BAD_REQUESTS {
+fn requests_end_as_their_wires_say(rt: HostRuntime) -> Result<(), Fail> {
+    for (input, client, server, outcome, got) in ROWS {
         let call = Call {
+            is_taken: true,
+            is_tagged: false,
             input,
-            client: Script::SMOOTH,
+            client: *client,
             port: open_port(),
-            server: ANSWERS,
+            server: *server,
         };
-        let served = serve(&rt, rt.alloc(), &site(&pattern), &call)?;
-        assert!(rt; has_answered(&served, *cause, BAD_REQUEST), "{cause:?}");
+        let owed = Owed {
+            outcome: *outcome,
+            got,
+            sent: None,
+            faults: None,
+        };
+        assert!(rt; is_owed(&rt, rt.alloc(), &call, &owed)?, "{outcome:?}");
     }
     Ok(())
 }
 
-// What the backend answers, the openings of its connections, which of its calls is refused, the cause, and what the client gets.
+// Whether the backend takes the head, what it answers, the openings of its connections, which of its calls is refused, the cause, and what
+// the client gets.
 type Unconnected = (
+    bool,
     Asked,
     &'static [ScriptedOpening],
     Option<(u64, Refused)>,
@@ -142,11 +210,13 @@ type Unconnected = (
     &'static [u8],
 );
 
-// A good request for which the backend has no connection.
+// A good request for which there is no connection.
 #[test]
-fn a_request_without_a_connection_is_answered(rt: HostRuntime) -> Result<(), Fail> {
+fn requests_without_a_connection_are_answered(rt: HostRuntime) -> Result<(), Fail> {
+    let other = Asked::Served(ServerId::new(SERVER + 1), ServedAs::Made);
     let rows: &[Unconnected] = &[
         (
+            true,
             its_server(),
             &[],
             Some((0, Refused::Memory)),
@@ -154,6 +224,7 @@ fn a_request_without_a_connection_is_answered(rt: HostRuntime) -> Result<(), Fai
             INTERNAL_SERVER_ERROR,
         ),
         (
+            true,
             its_server(),
             &[],
             Some((1, Refused::Worn)),
@@ -161,6 +232,7 @@ fn a_request_without_a_connection_is_answered(rt: HostRuntime) -> Result<(), Fai
             INTERNAL_SERVER_ERROR,
         ),
         (
+            true,
             Asked::NoSuchServer,
             &[],
             None,
@@ -168,13 +240,15 @@ fn a_request_without_a_connection_is_answered(rt: HostRuntime) -> Result<(), Fai
             INTERNAL_SERVER_ERROR,
         ),
         (
-            Asked::Served(ServerId::new(SERVER + 1), ServedAs::Made),
+            true,
+            other,
             &[],
             None,
             Cause::UnknownServer,
             INTERNAL_SERVER_ERROR,
         ),
         (
+            true,
             its_server(),
             &[],
             Some((2, Refused::Worn)),
@@ -182,6 +256,7 @@ fn a_request_without_a_connection_is_answered(rt: HostRuntime) -> Result<(), Fai
             INTERNAL_SERVER_ERROR,
         ),
         (
+            true,
             Asked::NoServer,
             &[],
             None,
@@ -189,6 +264,7 @@ fn a_request_without_a_connection_is_answered(rt: HostRuntime) -> Result<(), Fai
             SERVICE_UNAVAILABLE,
         ),
         (
+            true,
             its_server(),
             &[ScriptedOpening::NotServing],
             None,
@@ -196,102 +272,39 @@ fn a_request_without_a_connection_is_answered(rt: HostRuntime) -> Result<(), Fai
             SERVICE_UNAVAILABLE,
         ),
         (
+            true,
             its_server(),
             &[ScriptedOpening::Full],
             None,
             Cause::QueueOver,
             SERVICE_UNAVAILABLE,
         ),
+        (
+            false,
+            its_server(),
+            &[],
+            None,
+            Cause::NoBackend,
+            SERVICE_UNAVAILABLE,
+        ),
     ];
-    let pattern = source();
-    for (asked, openings, refusing, cause, text) in rows {
+    for (is_taken, asked, openings, refusing, cause, got) in rows {
         let call = Call {
+            is_taken: *is_taken,
+            is_tagged: false,
             input: POST,
             client: Script::SMOOTH,
             port: port_script(*asked, openings, *refusing),
             server: ANSWERS,
         };
-        let served = serve(&rt, rt.alloc(), &site(&pattern), &call)?;
-        assert!(rt; has_answered(&served, *cause, text), "{cause:?}");
-    }
-    Ok(())
-}
-
-// A good request to which the server gives no response.
-#[test]
-fn a_request_without_a_response_is_answered(rt: HostRuntime) -> Result<(), Fail> {
-    let rows: &[(DialScript<'static>, Cause, &[u8])] = &[
-        (Err(LATE), Cause::NotDialled(LATE), SERVICE_UNAVAILABLE),
-        (
-            sends(RESPONSE, failing_write(0, BROKEN)),
-            Cause::HeadNotTaken(BROKEN),
-            BAD_GATEWAY,
-        ),
-        (
-            sends(RESPONSE, cut_write(56)),
-            Cause::HeadNotTaken(LATE),
-            BAD_GATEWAY,
-        ),
-        (
-            sends(RESPONSE, cut_write(57)),
-            Cause::BodyNotTaken(LATE),
-            BAD_GATEWAY,
-        ),
-        (sends(b"", Script::SMOOTH), Cause::NoResponse, BAD_GATEWAY),
-        (
-            sends(RESPONSE, failing_read(0, BROKEN)),
-            Cause::ResponseBroken,
-            BAD_GATEWAY,
-        ),
-        (
-            sends(RESPONSE, failing_read(0, LATE)),
-            Cause::ResponseTimedOut,
-            GATEWAY_TIMEOUT,
-        ),
-    ];
-    let pattern = source();
-    for (server, cause, text) in rows {
-        let call = Call {
-            input: POST,
-            client: Script::SMOOTH,
-            port: open_port(),
-            server: *server,
+        // Where no backend takes the head nobody is asked.
+        let owed = Owed {
+            outcome: Outcome::Answered(*cause),
+            got,
+            sent: if *is_taken { None } else { Some(b"") },
+            faults: None,
         };
-        let served = serve(&rt, rt.alloc(), &site(&pattern), &call)?;
-        assert!(rt; has_answered(&served, *cause, text), "{cause:?}");
-    }
-    Ok(())
-}
-
-// A head that no backend takes, and a client that is too slow with its head: nobody is asked.
-#[test]
-fn a_head_without_a_backend_asks_nobody(rt: HostRuntime) -> Result<(), Fail> {
-    let rows: &[(bool, Script<'static>, Cause, &[u8])] = &[
-        (false, Script::SMOOTH, Cause::NoBackend, SERVICE_UNAVAILABLE),
-        (
-            true,
-            failing_read(0, WireFault::Timeout),
-            Cause::HeadTimedOut,
-            REQUEST_TIMEOUT,
-        ),
-    ];
-    let pattern = source();
-    for (takes, client, cause, text) in rows {
-        let call = Call {
-            input: POST,
-            client: *client,
-            port: open_port(),
-            server: ANSWERS,
-        };
-        let nowhere = Site {
-            takes: *takes,
-            ..site(&pattern)
-        };
-        let served = serve(&rt, rt.alloc(), &nowhere, &call)?;
-        assert!(rt;
-            has_answered(&served, *cause, text) && served.entries().is_empty(),
-            "{cause:?}"
-        );
+        assert!(rt; is_owed(&rt, rt.alloc(), &call, &owed)?, "{cause:?}");
     }
     Ok(())
 }

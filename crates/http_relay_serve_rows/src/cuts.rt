@@ -1,9 +1,10 @@
-use crate::causes::{
-    BAD_REQUEST, BROKEN, LATE, REQUEST_TIMEOUT, RESPONSE, failing_read, site, source,
+use crate::site::{
+    ANSWERS, BAD_GATEWAY, BAD_REQUEST, BROKEN, Call, LATE, Owed, REQUEST_TIMEOUT, RESPONSE,
+    is_owed, open_port,
 };
-use crate::site::{Call, Served, open_port, serve};
 use http_relay_serve::{Cause, DropCause, Outcome};
-use http_relay_wire::{Script, WireFault};
+use http_relay_wire::{FaultCounts, Script, WireFault};
+use std::alloc::{AllocError, Global};
 use std::test::Fail;
 
 /// A chunked upload: 99 bytes of head and 27 of body.
@@ -47,50 +48,161 @@ fn owed_at(came: usize, fault: Option<WireFault>) -> (Outcome, &'static [u8]) {
     }
 }
 
-// Whether the server got so many bytes and was hung up, and the slot was given back; or none was dialled, and nobody was asked.
-fn is_closed(served: &Served<'_>, sent: usize) -> bool {
-    let Some(talks) = served.dialer.talks() else {
-        return false;
-    };
-    let expected = SENT.split_at(sent.min(SENT.len())).0;
-    match talks {
-        [] => sent == 0 && served.entries().is_empty(),
-        [talk] => {
-            talk.written() == expected
-                && served.entries().len() == 4
-                && served.gave_back_its_slots()
-        }
-        _ => false,
+const UNFAILED: FaultCounts = FaultCounts {
+    reads_timed_out: 0,
+    reads_broken: 0,
+    writes_timed_out: 0,
+    writes_broken: 0,
+};
+
+// The counts of a wire that failed once in reading.
+const fn one_read(fault: WireFault) -> FaultCounts {
+    match fault {
+        WireFault::Timeout => FaultCounts {
+            reads_timed_out: 1,
+            ..UNFAILED
+        },
+        WireFault::Broken => FaultCounts {
+            reads_broken: 1,
+            ..UNFAILED
+        },
+    }
+}
+
+// The counts of a wire that failed once in writing.
+const fn one_write(fault: WireFault) -> FaultCounts {
+    match fault {
+        WireFault::Timeout => FaultCounts {
+            writes_timed_out: 1,
+            ..UNFAILED
+        },
+        WireFault::Broken => FaultCounts {
+            writes_broken: 1,
+            ..UNFAILED
+        },
     }
 }
 
 // The client ends, times out or breaks behind each of its bytes.
 #[test]
 fn an_upload_is_cut_at_every_byte(rt: HostRuntime) -> Result<(), Fail> {
-    let pattern = source();
     for fault in [None, Some(LATE), Some(BROKEN)] {
         for came in 0..=UPLOAD.len() {
-            let (front, _) = UPLOAD.split_at(came);
             let client = match fault {
                 None => Script::SMOOTH,
                 Some(fault) => Script {
                     pieces: &[1],
-                    ..failing_read(came as u64, fault)
+                    failing_read: Some((came as u64, fault)),
+                    ..Script::SMOOTH
                 },
             };
+            let (outcome, got) = owed_at(came, fault);
+            let (sent, _) = SENT.split_at(sent_of(came).min(SENT.len()));
+            let counts = match fault {
+                Some(fault) if came < UPLOAD.len() => one_read(fault),
+                _ => UNFAILED,
+            };
+            let owed = Owed {
+                outcome,
+                got,
+                sent: Some(sent),
+                faults: Some((counts, UNFAILED)),
+            };
+            let (front, _) = UPLOAD.split_at(came);
             let call = Call {
+                is_taken: true,
+                is_tagged: false,
                 input: front,
                 client,
                 port: open_port(),
-                server: Ok((RESPONSE, Script::SMOOTH)),
+                server: ANSWERS,
             };
-            let served = serve(&rt, rt.alloc(), &site(&pattern), &call)?;
-            let (outcome, got) = owed_at(came, fault);
             assert!(rt;
-                served.outcome == outcome
-                    && served.client.written() == got
-                    && is_closed(&served, sent_of(came)),
+                is_owed(&rt, rt.alloc(), &call, &owed)?,
                 "{fault:?} behind byte {came}"
+            );
+        }
+    }
+    Ok(())
+}
+
+// Whether the upload is relayed that comes in these pieces.
+fn is_relayed<R>(rt: &R, alloc: Global, pieces: &[usize]) -> Result<bool, AllocError> {
+    let client = Script {
+        pieces,
+        ..Script::SMOOTH
+    };
+    let call = Call {
+        is_taken: true,
+        is_tagged: false,
+        input: UPLOAD,
+        client,
+        port: open_port(),
+        server: ANSWERS,
+    };
+    let owed = Owed {
+        outcome: Outcome::Relayed,
+        got: RESPONSE,
+        sent: Some(SENT),
+        faults: Some((UNFAILED, UNFAILED)),
+    };
+    is_owed(rt, alloc, &call, &owed)
+}
+
+#[test]
+fn an_upload_comes_in_two_pieces_cut_at_every_byte(rt: HostRuntime) -> Result<(), Fail> {
+    for at in 1..UPLOAD.len() {
+        assert!(rt; is_relayed(&rt, rt.alloc(), &[at, 1000])?, "cut at {at}");
+    }
+    Ok(())
+}
+
+// What is owed where the server takes so many bytes and then fails so.
+fn owed_behind(taken: usize, fault: WireFault) -> (Outcome, &'static [u8], FaultCounts) {
+    match taken {
+        0..77 => (
+            Outcome::Answered(Cause::HeadNotTaken(fault)),
+            BAD_GATEWAY,
+            one_write(fault),
+        ),
+        77..104 => (
+            Outcome::Answered(Cause::BodyNotTaken(fault)),
+            BAD_GATEWAY,
+            one_write(fault),
+        ),
+        _ => (Outcome::Relayed, RESPONSE, UNFAILED),
+    }
+}
+
+// The request goes out byte by byte, in 104 writes: before the failing one as many bytes went out as there were writes.
+#[test]
+fn each_write_to_the_server_fails_in_turn(rt: HostRuntime) -> Result<(), Fail> {
+    for fault in [LATE, BROKEN] {
+        for taken in 0..=SENT.len() {
+            let server = Script {
+                most_written: 1,
+                failing_write: Some((taken as u64, fault)),
+                ..Script::SMOOTH
+            };
+            let (outcome, got, counts) = owed_behind(taken, fault);
+            let (sent, _) = SENT.split_at(taken);
+            let owed = Owed {
+                outcome,
+                got,
+                sent: Some(sent),
+                faults: Some((UNFAILED, counts)),
+            };
+            let call = Call {
+                is_taken: true,
+                is_tagged: false,
+                input: UPLOAD,
+                client: Script::SMOOTH,
+                port: open_port(),
+                server: Ok((RESPONSE, server)),
+            };
+            assert!(rt;
+                is_owed(&rt, rt.alloc(), &call, &owed)?,
+                "{fault:?} behind write {taken}"
             );
         }
     }

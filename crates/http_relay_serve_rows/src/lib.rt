@@ -1,7 +1,7 @@
-//! Whole requests through `serve_one`, over scripted wires, ports, clocks and dialers; and of its parts the queue before a full server,
-//! visits of one server, and what goes out in one write.
+//! Whole requests through `serve_one`, over scripted wires, ports, clocks and dialers; and of its parts the reading of heads and their
+//! forwarded form, the queue before a full server, and what goes out in one write.
 //!
-//! Tests alone. Each expected text was written by hand. Start at `causes`; `site` has the configuration of the tests.
+//! Tests alone. Each expected text was written by hand. Start at `requests`; `site` has the configuration of the tests.
 #![tactic(auto)]
 
 #[cfg(test)]
@@ -9,7 +9,9 @@ mod causes;
 #[cfg(test)]
 mod cuts;
 #[cfg(test)]
-mod drops;
+mod forwarding;
+#[cfg(test)]
+mod heads;
 #[cfg(test)]
 mod joint_writes;
 #[cfg(test)]
@@ -18,5 +20,3 @@ mod queues;
 mod requests;
 #[cfg(test)]
 mod site;
-#[cfg(test)]
-mod visits;

@@ -6,29 +6,25 @@ use lb_types::ServerId;
 
 const FULL: ScriptedOpening = ScriptedOpening::Full;
 
-// How a wait ended.
-#[derive(Clone, Copy, Debug, PartialEq, Eq)]
-enum End {
-    Opened,
-    NotServing,
-    Over,
-    Refused,
-}
-
 // The limit, the openings, how the wait ends, and the moments that were told.
-type Row = (Option<u32>, &'static [ScriptedOpening], End, &'static [u64]);
+type Row = (
+    Option<u32>,
+    &'static [ScriptedOpening],
+    &'static str,
+    &'static [u64],
+);
 
 const ROWS: &[Row] = &[
-    (Some(120), &[FULL; 9], End::Over, &[0, 50, 100, 150]),
-    (Some(100), &[FULL; 9], End::Over, &[0, 50, 100]),
-    (Some(0), &[FULL; 9], End::Over, &[0]),
-    (Some(120), &[FULL; 2], End::Opened, &[0, 50]),
-    (None, &[FULL; 5], End::Opened, &[0, 50, 100, 150, 200]),
-    (Some(120), &[], End::Opened, &[]),
+    (Some(120), &[FULL; 9], "over", &[0, 50, 100, 150]),
+    (Some(100), &[FULL; 9], "over", &[0, 50, 100]),
+    (Some(0), &[FULL; 9], "over", &[0]),
+    (Some(120), &[FULL; 2], "opened", &[0, 50]),
+    (None, &[FULL; 5], "opened", &[0, 50, 100, 150, 200]),
+    (Some(120), &[], "opened", &[]),
     (
         Some(120),
         &[FULL, ScriptedOpening::NotServing],
-        End::NotServing,
+        "not serving",
         &[0],
     ),
 ];
@@ -50,11 +46,11 @@ fn a_full_server_is_asked_every_50_milliseconds(rt: HostRuntime) {
         let ended = match waited {
             Ok(Waited::Opened(slot)) => {
                 let _shut = port.shut(&rt, slot);
-                End::Opened
+                "opened"
             }
-            Ok(Waited::NotServing) => End::NotServing,
-            Ok(Waited::Over) => End::Over,
-            Err(_) => End::Refused,
+            Ok(Waited::NotServing) => "not serving",
+            Ok(Waited::Over) => "over",
+            Err(_) => "refused",
         };
         assert!(rt; ended == *end && clock.told() == Some(*told), "{limit:?}");
     }

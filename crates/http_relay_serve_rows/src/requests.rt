@@ -1,15 +1,12 @@
-use crate::causes::{RESPONSE, site, source};
-use crate::site::{Call, SERVER, Served, Site, open_port, serve};
+use crate::site::{ANSWERS, BAD_REQUEST, Call, Owed, RESPONSE, is_owed, open_port};
+use http_relay_head::HEAD_ROOM;
 use http_relay_serve::{Cause, Outcome};
 use http_relay_wire::Script;
-use lb_acl::{KeyLen, KeySample, StickOn, TableType, Text};
-use lb_desk_model::{Entry, Event};
-use lb_types::{Moment, ServerId};
-use pin_set::{KeyText, PinKey};
-use std::alloc::{AllocError, Global};
 use std::test::Fail;
 
-// What the client sends, the outcome, and what the server gets and the client.
+const LONG: &[u8] = &[b'a'; HEAD_ROOM];
+
+// What the client sends, the outcome, and what the server gets and the client. Nobody is asked where the server gets nothing.
 type Row = (&'static [u8], Outcome, &'static [u8], &'static [u8]);
 
 const ROWS: &[Row] = &[
@@ -25,97 +22,76 @@ const ROWS: &[Row] = &[
         b"POST /e HTTP/1.1\r\nHost: x\r\nContent-Length: 2\r\nConnection: close\r\nX-Forwarded-For: 10.0.0.7\r\n\r\nhi",
         b"HTTP/1.1 100 Continue\r\n\r\nHTTP/1.1 200 OK\r\n\r\nok",
     ),
+    // The relay's own answer goes out behind its leave to go on.
     (
         b"POST /e HTTP/1.1\r\nExpect: 100-continue\r\nContent-Length: 3\r\n\r\nhi",
         Outcome::Answered(Cause::BodyCutShort),
         b"POST /e HTTP/1.1\r\nContent-Length: 3\r\nConnection: close\r\nX-Forwarded-For: 10.0.0.7\r\n\r\nhi",
         b"HTTP/1.1 100 Continue\r\n\r\nHTTP/1.1 400 Bad Request\r\nContent-Length: 0\r\nConnection: close\r\n\r\n",
     ),
+    (
+        LONG,
+        Outcome::Answered(Cause::HeadTooLarge),
+        b"",
+        BAD_REQUEST,
+    ),
+    (
+        b"GET / HTTP/1.1\r\nConnection: host\r\nHost: x\r\n\r\n",
+        Outcome::Answered(Cause::BadHead),
+        b"",
+        BAD_REQUEST,
+    ),
+    (
+        b"POST / HTTP/1.1\r\nContent-Length: 3\r\nTransfer-Encoding: chunked\r\n\r\n",
+        Outcome::Answered(Cause::BothLengths),
+        b"",
+        BAD_REQUEST,
+    ),
+    (
+        b"GET / HTT",
+        Outcome::Answered(Cause::HeadCutShort),
+        b"",
+        BAD_REQUEST,
+    ),
+    (
+        b"",
+        Outcome::Answered(Cause::HeadCutShort),
+        b"",
+        BAD_REQUEST,
+    ),
+    (
+        b"POST / HTTP/1.1\r\nContent-Length: 3\r\n\r\nhi",
+        Outcome::Answered(Cause::BodyCutShort),
+        b"POST / HTTP/1.1\r\nContent-Length: 3\r\nConnection: close\r\nX-Forwarded-For: 10.0.0.7\r\n\r\nhi",
+        BAD_REQUEST,
+    ),
+    (
+        b"POST / HTTP/1.1\r\nTransfer-Encoding: chunked\r\n\r\nzz\r\n",
+        Outcome::Answered(Cause::BadChunk),
+        b"POST / HTTP/1.1\r\nTransfer-Encoding: chunked\r\nConnection: close\r\nX-Forwarded-For: 10.0.0.7\r\n\r\n",
+        BAD_REQUEST,
+    ),
 ];
 
-// Whether one server was dialled and got these bytes.
-fn was_sent(served: &Served<'_>, sent: &[u8]) -> bool {
-    match served.dialer.talks() {
-        Some([talk]) => talk.written() == sent,
-        _ => false,
-    }
-}
-
-// What the server gets, and the client: the answer of the server, or the relay's own behind its leave to go on.
+// What the server gets, and the client: the answer of the server, or the relay's own.
 #[test]
-fn a_request_goes_to_its_server(rt: HostRuntime) -> Result<(), Fail> {
-    let pattern = source();
-    let forwarding = Site {
-        forwards_address: true,
-        ..site(&pattern)
-    };
+fn requests_end_as_their_bytes_say(rt: HostRuntime) -> Result<(), Fail> {
     for (input, outcome, sent, got) in ROWS {
         let call = Call {
+            is_taken: true,
+            is_tagged: true,
             input,
             client: Script::SMOOTH,
             port: open_port(),
-            server: Ok((RESPONSE, Script::SMOOTH)),
+            server: ANSWERS,
         };
-        let served = serve(&rt, rt.alloc(), &forwarding, &call)?;
-        assert!(rt;
-            served.outcome == *outcome
-                && served.client.written() == *got
-                && was_sent(&served, sent),
-            "{outcome:?}"
-        );
+        let owed = Owed {
+            outcome: *outcome,
+            got,
+            sent: Some(sent),
+            faults: None,
+        };
+        assert!(rt; is_owed(&rt, rt.alloc(), &call, &owed)?, "{outcome:?}");
     }
-    Ok(())
-}
-
-// The key is what stands in the field X-Id.
-fn by_field(alloc: Global) -> Result<StickOn, AllocError> {
-    Ok(StickOn {
-        sample: KeySample::Field(Text::new(Vec::from_slice(alloc, b"X-Id")?)),
-        table: TableType::Text(KeyLen::new(32)),
-    })
-}
-
-// Whether an expiry, the request with this key and a connection to the site's server were all, at this moment.
-fn has_asked(entries: &[Entry], key: &PinKey, now: Moment) -> bool {
-    let server = ServerId::new(SERVER);
-    match entries {
-        [expiry, request, open, close] => {
-            expiry.event == Event::Expire(now)
-                && asks_for(&request.event, key, now)
-                && open.event == Event::Open(server)
-                && close.event == Event::Close(server)
-        }
-        _ => false,
-    }
-}
-
-fn asks_for(event: &Event, key: &PinKey, now: Moment) -> bool {
-    match event {
-        Event::Serve(request) => request.key.as_ref() == Some(key) && request.moment == now,
-        _ => false,
-    }
-}
-
-// Whether one server was dialled, at its port.
-fn has_dialled(served: &Served<'_>) -> bool {
-    match served.dialer.dials() {
-        Some([dial]) => dial.endpoint.port == 8001,
-        _ => false,
-    }
-}
-
-// An expiry, the request with the key of its head at the clock's moment, and a connection to the server that was named.
-#[test]
-fn the_backend_is_asked_for_the_heads_key(rt: HostRuntime) -> Result<(), Fail> {
-    let key = PinKey::Text(KeyText::copied_from(rt.alloc(), b"k1")?);
-    let pattern = by_field(rt.alloc())?;
-    let call = Call {
-        input: b"GET / HTTP/1.1\r\nX-Id: k1\r\n\r\n",
-        client: Script::SMOOTH,
-        port: open_port(),
-        server: Ok((RESPONSE, Script::SMOOTH)),
-    };
-    let served = serve(&rt, rt.alloc(), &site(&pattern), &call)?;
-    assert!(rt; has_asked(served.entries(), &key, Moment::from_millis(7)) && has_dialled(&served));
     Ok(())
 }

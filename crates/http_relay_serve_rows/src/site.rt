@@ -6,9 +6,9 @@ use http_relay_dial::{DialScript, Endpoint, Limits, ScriptedDialer};
 use http_relay_head::HEAD_ROOM;
 use http_relay_serve::{Client, Outcome, Routing, Worker, serve_one};
 use http_relay_talk::Target;
-use http_relay_wire::{Script, ScriptedWire};
-use lb_acl::{Head, StickOn, pin_key};
-use lb_desk_model::{Entry, Reply, Request, RuleList, ServedAs};
+use http_relay_wire::{FaultCounts, Script, ScriptedWire, WireFault};
+use lb_acl::{Head, KeySample, StickOn, TableType, pin_key};
+use lb_desk_model::{Entry, Event, Reply, Request, RuleList, ServedAs};
 use lb_desk_ports::{
     Asked, Filed, OpenGate, PortScript, Refused, ScriptedClock, ScriptedOpening, ScriptedPort, Shut,
 };
@@ -17,18 +17,47 @@ use std::alloc::{AllocError, Global};
 use std::net::Ipv4Addr;
 use std::slice;
 
+/// What the server sends where nothing fails.
+pub(crate) const RESPONSE: &[u8] = b"HTTP/1.1 200 OK\r\n\r\nok";
+
+/// The relay's own answers.
+pub(crate) const BAD_REQUEST: &[u8] =
+    b"HTTP/1.1 400 Bad Request\r\nContent-Length: 0\r\nConnection: close\r\n\r\n";
+
+pub(crate) const REQUEST_TIMEOUT: &[u8] =
+    b"HTTP/1.1 408 Request Timeout\r\nContent-Length: 0\r\nConnection: close\r\n\r\n";
+
+pub(crate) const INTERNAL_SERVER_ERROR: &[u8] =
+    b"HTTP/1.1 500 Internal Server Error\r\nContent-Length: 0\r\nConnection: close\r\n\r\n";
+
+pub(crate) const BAD_GATEWAY: &[u8] =
+    b"HTTP/1.1 502 Bad Gateway\r\nContent-Length: 0\r\nConnection: close\r\n\r\n";
+
+pub(crate) const SERVICE_UNAVAILABLE: &[u8] =
+    b"HTTP/1.1 503 Service Unavailable\r\nContent-Length: 0\r\nConnection: close\r\n\r\n";
+
+pub(crate) const GATEWAY_TIMEOUT: &[u8] =
+    b"HTTP/1.1 504 Gateway Timeout\r\nContent-Length: 0\r\nConnection: close\r\n\r\n";
+
+pub(crate) const BROKEN: WireFault = WireFault::Broken;
+
+pub(crate) const LATE: WireFault = WireFault::Timeout;
+
+/// The server sends its response, and nothing fails.
+pub(crate) const ANSWERS: DialScript<'static> = Ok((RESPONSE, Script::SMOOTH));
+
 /// The one server of the site's backend.
 pub(crate) const SERVER: u8 = 1;
 
 /// A configuration with one backend, which has one server.
-#[derive(Clone, Copy, Debug)]
-pub(crate) struct Site<'a> {
+#[derive(Drop)]
+struct Site<'a> {
     /// The backend takes all heads, or none.
-    pub(crate) takes: bool,
+    takes: bool,
     /// How the server is reached.
-    pub(crate) target: Target,
-    pub(crate) forwards_address: bool,
-    pub(crate) pattern: &'a StickOn,
+    target: Target,
+    forwards_address: bool,
+    pattern: &'a StickOn,
 }
 
 impl Routing for Site<'_> {
@@ -75,20 +104,29 @@ impl Routing for Site<'_> {
     }
 }
 
-/// How the server is reached, with this limit of the queue.
-pub(crate) fn target(queue: Option<u32>) -> Target {
-    Target {
-        server: ServerId::new(SERVER),
-        endpoint: Endpoint {
-            address: Ipv4Addr::new(127, 0, 0, 1),
-            port: 8001,
-        },
-        limits: Limits {
-            connect: None,
-            transfer: None,
-        },
-        queue,
-    }
+/// One request: what its client sends, and what site, port and server answer.
+#[derive(Drop)]
+pub(crate) struct Call<'a> {
+    /// The site's backend takes it.
+    pub(crate) is_taken: bool,
+    /// The client's address is added.
+    pub(crate) is_tagged: bool,
+    pub(crate) input: &'a [u8],
+    pub(crate) client: Script<'a>,
+    pub(crate) port: PortScript<'a>,
+    pub(crate) server: DialScript<'a>,
+}
+
+/// What is owed for a request.
+#[derive(Drop)]
+pub(crate) struct Owed<'a> {
+    pub(crate) outcome: Outcome,
+    /// What the client gets.
+    pub(crate) got: &'a [u8],
+    /// What the server gets, where that is told: nothing where nobody is asked.
+    pub(crate) sent: Option<&'a [u8]>,
+    /// How often the client's wire and the server's have failed, where that is told.
+    pub(crate) faults: Option<(FaultCounts, FaultCounts)>,
 }
 
 /// A port that answers so.
@@ -116,31 +154,42 @@ pub(crate) fn open_port() -> PortScript<'static> {
     port_script(its_server(), &[], None)
 }
 
-/// One request: what its client sends, and what port and server answer.
-#[derive(Clone, Copy, Debug)]
-pub(crate) struct Call<'a> {
-    pub(crate) input: &'a [u8],
-    pub(crate) client: Script<'a>,
-    pub(crate) port: PortScript<'a>,
-    pub(crate) server: DialScript<'a>,
+// How the server is reached. Nobody waits for a connection.
+fn target() -> Target {
+    Target {
+        server: ServerId::new(SERVER),
+        endpoint: Endpoint {
+            address: Ipv4Addr::LOCALHOST,
+            port: 8001,
+        },
+        limits: Limits {
+            connect: None,
+            transfer: None,
+        },
+        queue: Some(0),
+    }
 }
 
-/// What became of a request.
-#[derive(Debug, Drop)]
-pub(crate) struct Served<'a> {
-    pub(crate) outcome: Outcome,
-    pub(crate) client: ScriptedWire<'a>,
-    pub(crate) dialer: ScriptedDialer<'a>,
-    pub(crate) ports: Vec<ScriptedPort<'a>>,
-}
-
-/// Serves the request at the site, with a clock that stands at 7 ms, for a client at 10.0.0.7.
-pub(crate) fn serve<'a, R>(
+/// Serves the request, with a clock that stands at 7 ms, for a client at 10.0.0.7: whether it ends as is owed, and as many connections were
+/// given back as were opened.
+pub(crate) fn is_owed<R>(
     rt: &R,
     alloc: Global,
-    site: &Site<'_>,
-    call: &'a Call<'a>,
-) -> Result<Served<'a>, AllocError> {
+    call: &Call<'_>,
+    owed: &Owed<'_>,
+) -> Result<bool, AllocError> {
+    let mut ports = Vec::new(alloc);
+    ports.push(ScriptedPort::new(alloc, &call.port))?;
+    let pattern = StickOn {
+        sample: KeySample::Source,
+        table: TableType::Ip,
+    };
+    let site = Site {
+        takes: call.is_taken,
+        target: target(),
+        forwards_address: call.is_tagged,
+        pattern: &pattern,
+    };
     let mut worker = Worker {
         clock: ScriptedClock::new(alloc, 7),
         gate: OpenGate,
@@ -150,46 +199,83 @@ pub(crate) fn serve<'a, R>(
         wire: ScriptedWire::new(alloc, call.input, call.client),
         source: Ipv4Addr::new(10, 0, 0, 7),
     };
-    let mut ports = Vec::new(alloc);
-    ports.push(ScriptedPort::new(alloc, &call.port))?;
     let mut room = [0; HEAD_ROOM];
     let outcome = serve_one(
         rt,
         alloc,
         &mut worker,
-        site,
+        &site,
         &mut ports,
         &mut client,
         &mut room,
     );
-    Ok(Served {
-        outcome,
-        client: client.wire,
-        dialer: worker.dialer,
-        ports,
-    })
+    let talks = worker.dialer.talks().unwrap_or(&[]);
+    Ok(outcome == owed.outcome && is_as_owed(owed, &client.wire, talks, &ports))
 }
 
-impl Served<'_> {
-    /// What was asked of the backend, and what it replied.
-    pub(crate) fn entries(&self) -> &[Entry] {
-        match self.ports.as_slice() {
-            [port] => port.entries(),
-            _ => &[],
+// Whether client, server and backend have seen what is owed.
+fn is_as_owed(
+    owed: &Owed<'_>,
+    client: &ScriptedWire<'_>,
+    talks: &[ScriptedWire<'_>],
+    ports: &[ScriptedPort<'_>],
+) -> bool {
+    let is_sent = match owed.sent {
+        Some(sent) => is_sent(ports, talks, sent),
+        None => true,
+    };
+    let is_counted = match owed.faults {
+        Some(faults) => has_failed(client, talks, faults),
+        None => true,
+    };
+    client.written() == owed.got && gave_back(ports) && is_sent && is_counted
+}
+
+// Whether as many connections were given back as were opened.
+fn gave_back(ports: &[ScriptedPort<'_>]) -> bool {
+    let [port] = ports else {
+        return false;
+    };
+    count(port.entries(), &Reply::Opened) == count(port.entries(), &Reply::Closed)
+}
+
+fn count(entries: &[Entry], reply: &Reply) -> usize {
+    let mut count: usize = 0;
+    for entry in entries {
+        if entry.reply == *reply {
+            count = count.saturating_add(1);
         }
     }
+    count
+}
 
-    /// Whether as many connections were given back as were opened.
-    pub(crate) fn gave_back_its_slots(&self) -> bool {
-        let opened = self.count(&Reply::Opened);
-        let closed = self.count(&Reply::Closed);
-        opened == closed
+// Whether the server got this over a connection that was opened and closed again, and that was all; or nobody was dialled nor asked.
+fn is_sent(ports: &[ScriptedPort<'_>], talks: &[ScriptedWire<'_>], sent: &[u8]) -> bool {
+    let [port] = ports else {
+        return false;
+    };
+    match (talks, port.entries()) {
+        ([], []) => sent.is_empty(),
+        ([talk], [_, _, open, close]) => {
+            talk.written() == sent
+                && open.event == Event::Open(ServerId::new(SERVER))
+                && close.event == Event::Close(ServerId::new(SERVER))
+        }
+        _ => false,
     }
+}
 
-    fn count(&self, reply: &Reply) -> usize {
-        self.entries()
-            .iter()
-            .filter(|entry| entry.reply == *reply)
-            .count()
-    }
+// Whether the client's wire and the server's have failed so often.
+fn has_failed(
+    client: &ScriptedWire<'_>,
+    talks: &[ScriptedWire<'_>],
+    faults: (FaultCounts, FaultCounts),
+) -> bool {
+    let (of_client, of_server) = faults;
+    let is_server_right = match talks {
+        [] => true,
+        [talk] => talk.faults() == of_server,
+        _ => false,
+    };
+    client.faults() == of_client && is_server_right
 }

@@ -1,4 +1,3 @@
-use crate::web_farm::web_farm;
 use lb_config::{Config, read_config};
 use lb_desk_backend::backend_of;
 use lb_desk_model::{Backend, BackendServer};
@@ -7,7 +6,6 @@ use server_state::AdminState::{Maint, Ready};
 use server_state::{AdminState, ServerSettings};
 use std::alloc::{AllocError, Global};
 use std::process::Abort;
-use std::test::Fail;
 
 /// A server's name, admin state, weight, `maxconn`, `maxpins`, whether it is a backup, and `rise` and `fall` where it is checked.
 type ServerRow = (
@@ -27,51 +25,6 @@ type BackendRow = (
     Option<(u32, Option<u32>, bool)>,
     &'static [ServerRow],
 );
-
-/// The web farm's servers have `maxconn 400 rise 2 fall 3` of the `defaults`, and as many pins as their table, or none.
-const FARM: &[BackendRow] = &[
-    (
-        Balance::RoundRobin,
-        false,
-        Some((1048576, Some(1800000), false)),
-        &[
-            (b"page1", Ready, 1, 400, 200000, false, Some((2, 3))),
-            (b"page2", Ready, 1, 400, 200000, false, Some((2, 3))),
-            (b"page3", Ready, 2, 400, 200000, false, Some((2, 3))),
-            (b"page4", Ready, 1, 400, 50000, false, Some((2, 3))),
-            (b"sorry", Ready, 1, 400, 1048576, true, Some((2, 3))),
-        ],
-    ),
-    (
-        Balance::LeastConnections,
-        false,
-        Some((102400, Some(600000), true)),
-        &[
-            (b"api1", Ready, 1, 400, 102400, false, Some((2, 3))),
-            (b"api2", Ready, 1, 400, 102400, false, Some((2, 3))),
-            (b"api3", Maint, 1, 400, 102400, false, Some((2, 3))),
-        ],
-    ),
-    (
-        Balance::RoundRobin,
-        false,
-        None,
-        &[
-            (b"picture1", Ready, 1, 2000, 0, false, Some((2, 3))),
-            (b"picture2", Ready, 1, 2000, 0, false, Some((2, 3))),
-        ],
-    ),
-    (Balance::RoundRobin, false, None, &[]),
-    (
-        Balance::RoundRobin,
-        false,
-        Some((4096, Some(28800000), false)),
-        &[
-            (b"tools1", Ready, 1, 400, 4096, false, Some((2, 3))),
-            (b"tools2", Ready, 1, 400, 4096, false, Some((2, 3))),
-        ],
-    ),
-];
 
 /// Two checked servers of five pins each, by the manual's defaults.
 pub(crate) const TWO_SERVERS: &[u8] =
@@ -102,6 +55,56 @@ const BACKUPS_ROW: &[BackendRow] = &[(
         (b"d", Ready, 256, 3, 20, true, None),
     ],
 )];
+
+/// A server that is checked, beside a backup that its line disables, by the manual's defaults. Without `maxpins` a server may hold the
+/// whole table.
+const DISABLED: &[u8] =
+    b"backend web\n  stick-table type string size 10\n  stick on hdr(x-id)\n  server a 127.0.0.1:8001 check maxpins 5\n  server b 127.0.0.1:8002 disabled backup\n";
+
+const DISABLED_ROW: &[BackendRow] = &[(
+    Balance::RoundRobin,
+    false,
+    Some((10, None, false)),
+    &[
+        (b"a", Ready, 1, 0, 5, false, Some((2, 3))),
+        (b"b", Maint, 1, 0, 10, true, None),
+    ],
+)];
+
+/// What `examples/web.cfg` says of tables and servers and no client of it sees, in fewer lines.
+const FARM: &[u8] =
+    b"defaults\ndefault-server check inter 2s rise 2 fall 3 maxconn 400\nbackend pages\nstick-table type string len 64 size 1m expire 30m\nserver page3 10.20.1.13:8080 maxpins 200000 weight 2\nserver sorry 10.20.1.99:8080 backup\nbackend api\nbalance leastconn\nstick-table type string len 40 size 100k expire 10m nopurge\nserver api3 10.20.2.13:9000 disabled # waits\nbackend pictures\nserver picture1 10.20.3.11:8000 maxconn 2000\nbackend closed\nlisten tools\nstick-table type ip size 4k expire 8h\nserver tools1 10.20.4.11:7000\n";
+
+const FARM_ROWS: &[BackendRow] = &[
+    (
+        Balance::RoundRobin,
+        false,
+        Some((1048576, Some(1800000), false)),
+        &[
+            (b"page3", Ready, 2, 400, 200000, false, Some((2, 3))),
+            (b"sorry", Ready, 1, 400, 1048576, true, Some((2, 3))),
+        ],
+    ),
+    (
+        Balance::LeastConnections,
+        false,
+        Some((102400, Some(600000), true)),
+        &[(b"api3", Maint, 1, 400, 102400, false, Some((2, 3)))],
+    ),
+    (
+        Balance::RoundRobin,
+        false,
+        None,
+        &[(b"picture1", Ready, 1, 2000, 0, false, Some((2, 3)))],
+    ),
+    (Balance::RoundRobin, false, None, &[]),
+    (
+        Balance::RoundRobin,
+        false,
+        Some((4096, Some(28800000), false)),
+        &[(b"tools1", Ready, 1, 400, 4096, false, Some((2, 3)))],
+    ),
+];
 
 fn counts(settings: ServerSettings) -> Option<(u16, u16)> {
     match settings.check {
@@ -159,35 +162,59 @@ fn are_backends(alloc: Global, config: &Config, wanted: &[BackendRow]) -> Result
     Ok(true)
 }
 
-fn expect_backends(
-    rt: &impl Abort,
-    alloc: Global,
-    config: &Config,
-    wanted: &[BackendRow],
-    what: &str,
-) -> Result<(), AllocError> {
-    assert!(rt; are_backends(alloc, config, wanted)?, "{what}");
-    Ok(())
-}
-
-#[test]
-fn each_backend_of_the_web_farm_opens_as_its_text_says(rt: HostRuntime) -> Result<(), Fail> {
-    let farm = web_farm(&rt, rt.alloc());
-    expect_backends(&rt, rt.alloc(), &farm, FARM, "the web farm")?;
-    Ok(())
-}
-
 /// Texts, and their backends.
-const SMALL: &[(&[u8], &[BackendRow], &str)] = &[
-    (TWO_SERVERS, TWO_SERVERS_ROW, "two servers"),
-    (BACKUPS, BACKUPS_ROW, "backups"),
+const TEXTS: &[(&[u8], &[BackendRow])] = &[
+    (TWO_SERVERS, TWO_SERVERS_ROW),
+    (BACKUPS, BACKUPS_ROW),
+    (DISABLED, DISABLED_ROW),
+    (FARM, FARM_ROWS),
+    (
+        b"backend web\nserver a 1.2.3.4:1\ndefault-server weight 5 check\nserver b 1.2.3.4:1\ndefault-server rise 4\nserver c 1.2.3.4:1 weight 9 fall 7",
+        &[(
+            Balance::RoundRobin,
+            false,
+            None,
+            &[
+                (b"a", Ready, 1, 0, 0, false, None),
+                (b"b", Ready, 5, 0, 0, false, Some((2, 3))),
+                (b"c", Ready, 9, 0, 0, false, Some((4, 7))),
+            ],
+        )],
+    ),
+    (
+        b"defaults\ndefault-server weight 3 rise 5 check\nbackend web\nserver a 1.2.3.4:1\ndefault-server weight 6\nserver b 1.2.3.4:1\nserver c 1.2.3.4:1 rise 1",
+        &[(
+            Balance::RoundRobin,
+            false,
+            None,
+            &[
+                (b"a", Ready, 3, 0, 0, false, Some((5, 3))),
+                (b"b", Ready, 6, 0, 0, false, Some((5, 3))),
+                (b"c", Ready, 6, 0, 0, false, Some((1, 3))),
+            ],
+        )],
+    ),
+    // A `default-server` behind the servers counts for nobody.
+    (
+        b"backend web\nserver a 1.2.3.4:1\nserver b 1.2.3.4:1 weight 0\nserver c 1.2.3.4:1\ndefault-server weight 5",
+        &[(
+            Balance::RoundRobin,
+            false,
+            None,
+            &[
+                (b"a", Ready, 1, 0, 0, false, None),
+                (b"b", Ready, 0, 0, 0, false, None),
+                (b"c", Ready, 1, 0, 0, false, None),
+            ],
+        )],
+    ),
 ];
 
 #[test]
-fn each_backend_opens_as_its_text_says(rt: HostRuntime) -> Result<(), Fail> {
-    for (text, wanted, what) in SMALL {
+fn each_backend_opens_as_its_text_says(rt: HostRuntime) {
+    for (text, wanted) in TEXTS {
         let config = config(&rt, rt.alloc(), *text);
-        expect_backends(&rt, rt.alloc(), &config, *wanted, *what)?;
+        let is_so = matches!(are_backends(rt.alloc(), &config, *wanted), Ok(true));
+        assert!(&rt; is_so, "{text:?}");
     }
-    Ok(())
 }

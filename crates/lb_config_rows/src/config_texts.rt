@@ -1,23 +1,41 @@
-use crate::backends::config;
-use lb_acl::{Head, Version, designated, pin_cost};
-use lb_config::{BackendConfig, Config, FindFault, Frontend};
-use lb_config_lines::SocketAddress;
-use lb_types::{Balance, Name, ServerId};
-use std::alloc::Global;
-use std::net::Ipv4Addr;
-use std::process::Abort;
-use std::test::Fail;
+//! What texts say of the whole program, and of their proxies.
 
-/// A request of this method, without fields.
-fn head(method: &str) -> Head<'_> {
-    Head::new(
-        method.as_bytes(),
-        b"/",
-        Version::Http11,
-        &[],
-        Ipv4Addr::LOCALHOST,
-    )
-}
+use crate::backends::{TWO_SERVERS, config};
+use check_workers_rule::CheckRequest;
+use lb_config::{BackendConfig, Config, Frontend};
+use lb_config_lines::SocketAddress;
+use lb_types::Balance;
+
+/// A text, its relays, its tries and how many warnings it has, the path of its commands' socket, and the length of its backend's journal.
+type ProgramRow = (
+    &'static [u8],
+    (u8, u16, usize),
+    Option<&'static [u8]>,
+    Option<u32>,
+);
+
+const PROGRAMS: &[ProgramRow] = &[
+    (TWO_SERVERS, (8, 8, 0), None, Some(100000)),
+    (
+        b"global\nlog 127.0.0.1 local0\ntune.journal 2\nbackend web\nglobal\ntune.relays 3\nstats socket /run/lb level admin\n",
+        (3, 8, 2),
+        Some(b"/run/lb"),
+        Some(2),
+    ),
+    // Of each value the last one counts.
+    (
+        b"global\ntune.relays 3\ntune.journal 2\nstats socket 127.0.0.1:99\ntune.relays 4\nstats socket /run/lb\nbackend web",
+        (4, 8, 0),
+        Some(b"/run/lb"),
+        Some(2),
+    ),
+    (
+        b"global\nstats socket /run/stickylb.sock # operators\ntune.relays 16\ntune.journal 200000\nbackend pages",
+        (16, 8, 0),
+        Some(b"/run/stickylb.sock"),
+        Some(200000),
+    ),
+];
 
 /// Whether the commands' socket is at this path, or is none.
 fn is_at(config: &Config, wanted: Option<&[u8]>) -> bool {
@@ -28,95 +46,157 @@ fn is_at(config: &Config, wanted: Option<&[u8]>) -> bool {
     }
 }
 
-// A long function, in which branches meet before it goes on, takes the prover minutes. So each text is looked at by itself.
-#[test]
-fn a_backend_with_a_table_and_the_whole_program(rt: HostRuntime) -> Result<(), Fail> {
-    let text =
-        b"backend web\n  stick-table type string size 10\n  stick on hdr(x-id)\n  server a 127.0.0.1:8001 check maxpins 5\n  server b 127.0.0.1:8002 check\n";
-    a_backend_with_a_table(&rt, &config(&rt, rt.alloc(), text));
-    let text =
-        b"global\nlog 127.0.0.1 local0\ntune.journal 2\nbackend web\nglobal\ntune.relays 3\nstats socket /run/lb level admin\n";
-    the_whole_program(&rt, &config(&rt, rt.alloc(), text));
-    Ok(())
-}
-
-fn a_backend_with_a_table(rt: &impl Abort, table: &Config) {
-    assert!(rt; has_nothing_beside(table));
-    let Some(web) = table.backends().first() else {
-        panic!(rt; "no backend");
+fn is_program(config: &Config, wanted: &ProgramRow) -> bool {
+    let (_, numbers, socket, journal) = *wanted;
+    let found = match config.backends().first() {
+        Some(backend) => Some(backend.journal()),
+        None => None,
     };
-    assert!(rt; is_web(web) && has_table(web));
-    let (Some(a), Some(b)) = (web.servers().first(), web.servers().last()) else {
-        panic!(rt; "no servers");
-    };
-    // Without `maxpins` a server may hold the whole table.
-    let found = (
-        a.settings().max_pins,
-        b.settings().max_pins,
-        web.probe_limit(a),
-    );
-    assert_eq!(rt; found, (5, 10, Some(2000)));
+    (config.relays(), config.tries(), config.warnings().len()) == numbers
+        && is_at(config, socket)
+        && found == journal
 }
-
-/// Whether there are neither frontends nor a commands' socket, and the manual's numbers of relays and tries.
-fn has_nothing_beside(table: &Config) -> bool {
-    table.frontends().is_empty() && (table.relays(), table.tries()) == (8, 8) && is_at(table, None)
-}
-
-/// Whether the backend has its name, and for the rest what the manual says of all.
-fn is_web(web: &BackendConfig) -> bool {
-    web.name().as_bytes() == b"web".as_slice()
-        && (web.balance(), web.journal(), web.connect_limit())
-            == (Balance::RoundRobin, 100000, None)
-        && (web.all_backups(), web.evacuate(), web.forward_for()) == (false, false, false)
-}
-
-fn has_table(web: &BackendConfig) -> bool {
-    web.rules().table().is_some() && web.rules().stick_on().is_some()
-}
-
-fn the_whole_program(rt: &impl Abort, whole: &Config) {
-    let found = (whole.relays(), whole.tries(), whole.warnings().len());
-    assert_eq!(rt; found, (3, 8, 2));
-    assert!(rt; is_at(whole, Some(b"/run/lb")));
-    let Some(web) = whole.backends().first() else {
-        panic!(rt; "no backend");
-    };
-    assert_eq!(rt; web.journal(), 2);
-}
-
-/// Of each backend its balance, whether it has `forwardfor`, its limit of servers, and the weight of its first server.
-const DEFAULTS: &[(Balance, bool, Option<u32>, u16)] = &[
-    (Balance::RoundRobin, false, None, 0),
-    (Balance::First, true, Some(7), 9),
-    (Balance::LeastConnections, true, Some(7), 0),
-    (Balance::First, true, Some(7), 0),
-    (Balance::RoundRobin, false, None, 1),
-];
 
 #[test]
-fn defaults_reach_up_to_the_next_ones(rt: HostRuntime) -> Result<(), Fail> {
-    let text =
-        b"backend a\ndefaults\nbalance first\ntimeout client 5s\ntimeout server 7\noption forwardfor\ndefault-server weight 9\nbackend b\nserver s 1.2.3.4:1\nbackend c\nbalance leastconn\nlisten l\nbind :80\ndefaults\ntimeout client 6s\nfrontend f\nbackend d\nserver s 1.2.3.4:1\n";
-    let config = config(&rt, rt.alloc(), text);
-    backends_have_the_defaults(&rt, config.backends());
-    frontends_have_the_defaults(&rt, config.frontends());
-    Ok(())
-}
-
-fn backends_have_the_defaults(rt: &impl Abort, backends: &[BackendConfig]) {
-    let count = backends.len();
-    for (backend, wanted) in backends.iter().zip(DEFAULTS.iter()) {
-        let found = (
-            backend.balance(),
-            backend.forward_for(),
-            backend.server_limit(),
-            first_weight(backend),
-        );
-        let name = backend.name();
-        assert_eq!(rt; (count, found), (5, *wanted), "of {name:?}");
+fn values_of_the_whole_program(rt: HostRuntime) {
+    for row in PROGRAMS {
+        let (text, _, _, _) = *row;
+        let config = config(&rt, rt.alloc(), text);
+        assert!(&rt; is_program(&config, row), "{text:?}");
     }
 }
+
+/// A backend's name, its balance, whether it has `allbackups`, `evacuate` and `forwardfor`, its limits of a dial, of servers and of the
+/// queue, and the weight of its first server, or 0.
+type BackRow = (
+    &'static [u8],
+    Balance,
+    (bool, bool, bool),
+    [Option<u32>; 3],
+    u16,
+);
+
+/// A frontend's name, its limit of clients, and whether it has `forwardfor`.
+type FrontRow = (&'static [u8], Option<u32>, bool);
+
+/// Texts, their backends and their frontends.
+const PROXIES: &[(&[u8], &[BackRow], &[FrontRow])] = &[
+    (
+        TWO_SERVERS,
+        &[(
+            b"web",
+            Balance::RoundRobin,
+            (false, false, false),
+            [None; 3],
+            1,
+        )],
+        &[],
+    ),
+    // Defaults reach up to the next ones.
+    (
+        b"backend a\ndefaults\nbalance first\ntimeout client 5s\ntimeout server 7\noption forwardfor\ndefault-server weight 9\nbackend b\nserver s 1.2.3.4:1\nbackend c\nbalance leastconn\nlisten l\nbind :80\ndefaults\ntimeout client 6s\nfrontend f\nbackend d\nserver s 1.2.3.4:1\n",
+        &[
+            (
+                b"a",
+                Balance::RoundRobin,
+                (false, false, false),
+                [None; 3],
+                0,
+            ),
+            (
+                b"b",
+                Balance::First,
+                (false, false, true),
+                [None, Some(7), None],
+                9,
+            ),
+            (
+                b"c",
+                Balance::LeastConnections,
+                (false, false, true),
+                [None, Some(7), None],
+                0,
+            ),
+            (
+                b"l",
+                Balance::First,
+                (false, false, true),
+                [None, Some(7), None],
+                0,
+            ),
+            (
+                b"d",
+                Balance::RoundRobin,
+                (false, false, false),
+                [None; 3],
+                1,
+            ),
+        ],
+        &[(b"l", Some(5000), true), (b"f", Some(6000), false)],
+    ),
+    // Of each value the last one counts, and what a section says counts for no other.
+    (
+        b"defaults\nbalance first\ntimeout server 3s\ntimeout client 1m\noption allbackups\nlisten web\nbalance roundrobin\nbalance leastconn\ntimeout server 5\ntimeout queue 0\ndefault_backend web\noption evacuate\nbackend other",
+        &[
+            (
+                b"web",
+                Balance::LeastConnections,
+                (true, true, false),
+                [None, Some(5), Some(0)],
+                0,
+            ),
+            (
+                b"other",
+                Balance::First,
+                (true, false, false),
+                [None, Some(3000), None],
+                0,
+            ),
+        ],
+        &[(b"web", Some(60000), false)],
+    ),
+    (
+        b"defaults\nmode http\nlisten web\n\nbind *:80\nserver a 1.2.3.4:5\nbackend other\ndefaults\nglobal",
+        &[
+            (
+                b"web",
+                Balance::RoundRobin,
+                (false, false, false),
+                [None; 3],
+                1,
+            ),
+            (
+                b"other",
+                Balance::RoundRobin,
+                (false, false, false),
+                [None; 3],
+                0,
+            ),
+        ],
+        &[(b"web", None, false)],
+    ),
+    // What `examples/web.cfg` says of its proxies and no client of it sees, in fewer lines.
+    (
+        b"defaults\nmode http\ntimeout client 30s\ntimeout connect 3s\ntimeout server 30s\ntimeout queue 5s\ntimeout check 2s\nbalance roundrobin\noption forwardfor\nfrontend shop\nbind *:80\ndefault_backend api\nbackend api\nbalance leastconn\noption evacuate\nserver api1 10.20.2.11:9000\nbackend pictures\ntimeout server 10s\nserver picture1 10.20.3.11:8000 maxconn 2000\n",
+        &[
+            (
+                b"api",
+                Balance::LeastConnections,
+                (false, true, true),
+                [Some(3000), Some(30000), Some(5000)],
+                1,
+            ),
+            (
+                b"pictures",
+                Balance::RoundRobin,
+                (false, false, true),
+                [Some(3000), Some(10000), Some(5000)],
+                1,
+            ),
+        ],
+        &[(b"shop", Some(30000), true)],
+    ),
+];
 
 /// The weight of the first server, or 0.
 fn first_weight(backend: &BackendConfig) -> u16 {
@@ -126,151 +206,159 @@ fn first_weight(backend: &BackendConfig) -> u16 {
     }
 }
 
-fn frontends_have_the_defaults(rt: &impl Abort, frontends: &[Frontend]) {
-    let (Some(l), Some(f)) = (frontends.first(), frontends.last()) else {
-        panic!(rt; "no frontends");
-    };
-    let found = (
-        l.client_limit(),
-        l.forward_for(),
-        f.client_limit(),
-        f.forward_for(),
-    );
-    assert_eq!(rt; found, (Some(5000), true, Some(6000), false));
+fn is_back(backend: &BackendConfig, wanted: &BackRow) -> bool {
+    let (name, balance, flags, limits, weight) = *wanted;
+    backend.name().as_bytes() == name
+        && backend.balance() == balance
+        && (
+            backend.all_backups(),
+            backend.evacuate(),
+            backend.forward_for(),
+        ) == flags
+        && [
+            backend.connect_limit(),
+            backend.server_limit(),
+            backend.queue_limit(),
+        ] == limits
+        && first_weight(backend) == weight
 }
 
-/// Of each frontend the backend of a GET and of a PUT.
-const CHOSEN: &[(Option<usize>, Option<usize>)] = &[
-    (Some(0), Some(2)),
-    (Some(2), Some(2)),
-    (Some(0), None),
-    (Some(2), Some(1)),
-];
+fn are_backs(backends: &[BackendConfig], wanted: &[BackRow]) -> bool {
+    backends.len() == wanted.len()
+        && backends
+            .iter()
+            .zip(wanted)
+            .all(|(backend, wanted)| is_back(backend, wanted))
+}
+
+fn is_front(frontend: &Frontend, wanted: &FrontRow) -> bool {
+    let (name, limit, forward_for) = *wanted;
+    frontend.name().as_bytes() == name
+        && (frontend.client_limit(), frontend.forward_for()) == (limit, forward_for)
+}
+
+fn are_fronts(frontends: &[Frontend], wanted: &[FrontRow]) -> bool {
+    frontends.len() == wanted.len()
+        && frontends
+            .iter()
+            .zip(wanted)
+            .all(|(frontend, wanted)| is_front(frontend, wanted))
+}
 
 #[test]
-fn requests_go_to_their_backends_and_rules_know_their_servers(rt: HostRuntime) -> Result<(), Fail> {
-    let text =
-        b"listen own\nuse_backend b if { method PUT }\nlisten other\ndefault_backend b\nfrontend none\nuse_backend own if { method GET }\nfrontend f\nuse_backend b if get\nuse_backend own if get\nacl get method GET\ndefault_backend other\nbackend b\n";
-    requests_go_to_their_backends(&rt, &config(&rt, rt.alloc(), text));
-    let text =
-        b"backend web\nuse-server b if { method GET }\nuse-server a if { method GET HEAD }\npin-cost 20 unless { method GET }\nserver a 1.2.3.4:1\nserver b 1.2.3.4:2\n";
-    rules_know_their_servers(&rt, rt.alloc(), &config(&rt, rt.alloc(), text))
-}
-
-fn requests_go_to_their_backends(rt: &impl Abort, chosen: &Config) {
-    let count = chosen.frontends().len();
-    for (frontend, wanted) in chosen.frontends().iter().zip(CHOSEN.iter()) {
-        let found = (
-            frontend.backend_of(&head("GET")),
-            frontend.backend_of(&head("PUT")),
-        );
-        let name = frontend.name();
-        assert_eq!(rt; (count, found), (4, *wanted), "of {name:?}");
+fn values_of_proxies_and_how_far_defaults_reach(rt: HostRuntime) {
+    for (text, backs, fronts) in PROXIES {
+        let config = config(&rt, rt.alloc(), *text);
+        let is_so = are_backs(config.backends(), *backs) && are_fronts(config.frontends(), *fronts);
+        assert!(&rt; is_so, "{text:?}");
     }
 }
 
-fn rules_know_their_servers(rt: &impl Abort, alloc: Global, ruled: &Config) -> Result<(), Fail> {
-    let Some(web) = ruled.backends().first() else {
-        panic!(rt; "no backend");
-    };
-    let both = [ServerId::new(1), ServerId::new(0)];
-    let servers = designated(alloc, web.rules().use_servers(), &head("GET"))?;
-    assert!(rt; servers.as_slice() == both.as_slice());
-    let costs = web.rules().pin_costs();
-    let found = (
-        pin_cost(costs, &head("GET")),
-        pin_cost(costs, &head("HEAD")),
-    );
-    assert_eq!(rt; found, (1, 20));
-    Ok(())
-}
+/// Of a server the limits of its dial, of its queue and of its check, how often it is checked, and by which request line and fields.
+type ServerTimes = (
+    [Option<u32>; 3],
+    u32,
+    Option<(&'static [u8], &'static [u8])>,
+);
 
-/// A text, and the limits of a dial, of the queue and of a check.
-const LIMITS: &[(&[u8], Option<u32>, Option<u32>, Option<u32>)] = &[
-    (b"backend w\nserver a 1.2.3.4:1", None, None, Some(2000)),
+/// Texts, and their first server.
+const TIMES: &[(&[u8], ServerTimes)] = &[
+    (
+        b"backend w\nserver a 1.2.3.4:1",
+        ([None, None, Some(2000)], 2000, None),
+    ),
     (
         b"backend w\ntimeout connect 3s\nserver a 1.2.3.4:1 inter 5",
-        Some(3000),
-        Some(3000),
-        Some(5),
+        ([Some(3000), Some(3000), Some(5)], 5, None),
     ),
     (
         b"backend w\ntimeout connect 0\ntimeout check 0\nserver a 1.2.3.4:1 inter 0",
-        None,
-        None,
-        None,
+        ([None; 3], 0, None),
     ),
     (
         b"backend w\ntimeout connect 1\ntimeout queue 0\nserver a 1.2.3.4:1",
-        Some(1),
-        Some(0),
-        Some(2000),
+        ([Some(1), Some(0), Some(2000)], 2000, None),
     ),
     (
         b"backend w\ntimeout queue 4\ntimeout check 6\nserver a 1.2.3.4:1",
-        None,
-        Some(4),
-        Some(6),
+        ([None, Some(4), Some(6)], 2000, None),
+    ),
+    (
+        b"backend web\nserver a 127.0.0.1:80 check inter 1500us\noption httpchk",
+        (
+            [None, None, Some(2)],
+            2,
+            Some((b"OPTIONS / HTTP/1.0\r\n", b"\r\n")),
+        ),
+    ),
+    (
+        b"defaults\noption httpchk /x\nbackend web\nserver a localhost:80\noption httpchk GET /up HTTP/1.1",
+        (
+            [None, None, Some(2000)],
+            2000,
+            Some((b"GET /up HTTP/1.1\r\n", b"Host: 127.0.0.1:80\r\n\r\n")),
+        ),
+    ),
+    (
+        b"defaults\noption httpchk /y\noption httpchk /x\ndefault-server inter 3s\nbackend web\nserver a localhost:80",
+        (
+            [None, None, Some(3000)],
+            3000,
+            Some((b"OPTIONS /x HTTP/1.0\r\n", b"\r\n")),
+        ),
+    ),
+    // As `examples/web.cfg` has it.
+    (
+        b"defaults\ntimeout connect 3s\ntimeout queue 5s\ntimeout check 2s\ndefault-server check inter 2s rise 2 fall 3 maxconn 400\nbackend pages\noption httpchk GET /health HTTP/1.1\nserver page1 10.20.1.11:8080 maxpins 200000",
+        (
+            [Some(3000), Some(5000), Some(2000)],
+            2000,
+            Some((
+                b"GET /health HTTP/1.1\r\n",
+                b"Host: 10.20.1.11:8080\r\n\r\n",
+            )),
+        ),
+    ),
+    (
+        b"backend api\noption httpchk HEAD /v2/up\nserver api3 10.20.2.13:9000 disabled",
+        (
+            [None, None, Some(2000)],
+            2000,
+            Some((b"HEAD /v2/up HTTP/1.0\r\n", b"\r\n")),
+        ),
     ),
 ];
 
-/// The limits of a dial, of the queue and of a check of the first server of the first backend, if there is one.
-fn limits(config: &Config) -> Option<(Option<u32>, Option<u32>, Option<u32>)> {
-    let backend = config.backends().first()?;
-    let server = backend.servers().first()?;
-    Some((
+fn is_asked(found: Option<CheckRequest>, wanted: Option<(&[u8], &[u8])>) -> bool {
+    match (found, wanted) {
+        (Some(found), Some((line, fields))) => found.line == line && found.fields == fields,
+        (None, None) => true,
+        _ => false,
+    }
+}
+
+/// Whether the first backend's first server has these times and is checked by this request.
+fn has_times(config: &Config, wanted: &ServerTimes) -> bool {
+    let Some(backend) = config.backends().first() else {
+        return false;
+    };
+    let Some(server) = backend.servers().first() else {
+        return false;
+    };
+    let (limits, interval, request) = *wanted;
+    [
         backend.connect_limit(),
         backend.queue_limit(),
         backend.probe_limit(server),
-    ))
+    ] == limits
+        && server.interval() == interval
+        && is_asked(server.check_rule().request(), request)
 }
 
 #[test]
-fn limits_of_times(rt: HostRuntime) -> Result<(), Fail> {
-    for (text, connect, queue, check) in LIMITS {
+fn limits_of_times_and_what_a_check_sends(rt: HostRuntime) {
+    for (text, wanted) in TIMES {
         let config = config(&rt, rt.alloc(), *text);
-        let wanted = Some((*connect, *queue, *check));
-        assert_eq!(rt; limits(&config), wanted, "{text:?}");
+        assert!(&rt; has_times(&config, wanted), "{text:?}");
     }
-    Ok(())
-}
-
-#[test]
-fn names_are_found(rt: HostRuntime) -> Result<(), Fail> {
-    let text = b"frontend f\nbackend web\nserver a 1.2.3.4:1\nserver b 1.2.3.4:1\nlisten shop\n";
-    find_names(&rt, &config(&rt, rt.alloc(), text))?;
-    let numbers = (
-        FindFault::NoBackend.number(),
-        FindFault::NoSuchServer.number(),
-    );
-    assert_eq!(rt; numbers, (103, 10));
-    Ok(())
-}
-
-fn find_names(rt: &impl Abort, config: &Config) -> Result<(), Fail> {
-    let [web, shop, a, b] = [
-        Name::read(b"web")?,
-        Name::read(b"shop")?,
-        Name::read(b"a")?,
-        Name::read(b"b")?,
-    ];
-    let f = Name::read(b"f")?;
-    let backends = [
-        config.find_backend(&web),
-        config.find_backend(&shop),
-        config.find_backend(&f),
-    ];
-    assert_eq!(rt; backends, [Ok(0), Ok(1), Err(FindFault::NoBackend)]);
-    let found = [
-        config.find(&web, &b),
-        config.find(&shop, &a),
-        config.find(&f, &a),
-    ];
-    let wanted = [
-        Ok((0, ServerId::new(1))),
-        Err(FindFault::NoSuchServer),
-        Err(FindFault::NoBackend),
-    ];
-    assert_eq!(rt; found, wanted);
-    Ok(())
 }

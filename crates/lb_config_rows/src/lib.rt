@@ -1,8 +1,8 @@
-//! Configurations read from texts: their sections or their first fault, and what their sections, their `defaults` and the manual's
-//! defaults make of them, up to the backends that the machine opens with.
+//! Configurations read from texts: what their sections, their `defaults` and the manual's defaults make of them, up to the backends that
+//! the machine opens with.
 //!
-//! Tests alone, of `lb_config`, `lb_config_sections`, `_values` and `_rules`, which cross the answers of conditions, of
-//! `lb_desk_backend`, and of `lb_desk`, which lets such a backend run.
+//! Tests alone, of `lb_config`, of `lb_desk_backend`, and of `lb_desk`, which lets such a backend run. What a text's faults and warnings
+//! are is tested by `tests/check`; what clients, operators and servers see of a text, by `tests/balance`.
 #![tactic(auto)]
 
 #[cfg(test)]
@@ -10,12 +10,4 @@ mod backends;
 #[cfg(test)]
 mod config_texts;
 #[cfg(test)]
-mod rules;
-#[cfg(test)]
 mod running;
-#[cfg(test)]
-mod sections;
-#[cfg(test)]
-mod values;
-#[cfg(test)]
-mod web_farm;

@@ -2,102 +2,41 @@
 
 use crate::backends::{TWO_SERVERS, config};
 use lb_config::BackendConfig;
-use lb_desk::{Desk, Event, Reply, Request, RuleList, ServedAs, open, run_world};
-use lb_types::Moment;
-use pin_set::{KeyText, PinKey};
+use lb_desk::{Event, Reply, open, run_world};
+use lb_types::ServerId;
 use std::alloc::Global;
 use std::hash::{BuildHasherDefault, FoldHasher, RandomState};
-use std::process::Abort;
 use std::random::RandomSource;
 use std::test::Fail;
 
-type Hasher = BuildHasherDefault<FoldHasher>;
-
-/// Keys of requests, one behind the other, and the server that each gets, by its place. Only the last has a pin already.
-const ASKED: &[(&[u8], usize, ServedAs)] = &[
-    (b"k1", 0, ServedAs::Made),
-    (b"k2", 1, ServedAs::Made),
-    (b"k1", 0, ServedAs::Kept),
-];
-
-/// A request that no rule matches.
-fn serve(alloc: Global, key: &[u8]) -> Result<Event, Fail> {
-    Ok(Event::Serve(Request {
-        key: Some(PinKey::Text(KeyText::copied_from(alloc, key)?)),
-        rules: RuleList::new(Vec::new(alloc)),
-        cost: 1,
-        moment: Moment::from_millis(0),
-    }))
-}
-
-fn is_served(reply: &Reply, at: usize, how: ServedAs) -> bool {
-    match reply {
-        Reply::Served(server, served) => server.index() == at && *served == how,
-        _ => false,
-    }
-}
-
-fn each_request_at_a_desk(
-    rt: &impl Abort,
-    alloc: Global,
-    backend: &BackendConfig,
-) -> Result<(), Fail> {
-    assert_eq!(rt; backend.journal(), 100000);
-    let fixed = BuildHasherDefault::<FoldHasher>::new();
-    let mut desk = open(alloc, backend, fixed)?;
-    ask_each(rt, alloc, &mut desk)?;
-    assert_eq!(rt; desk.journal().len(), 3);
-    Ok(())
-}
-
-// A function that has a desk of its own, and many calls behind which it would end, takes the prover minutes. So it is lent one.
-fn ask_each(rt: &impl Abort, alloc: Global, desk: &mut Desk<Hasher>) -> Result<(), Fail> {
-    for (key, at, how) in ASKED {
-        let reply = ask(alloc, desk, *key)?;
-        assert!(rt; is_served(&reply, *at, *how), "{key:?}");
-    }
-    Ok(())
-}
-
-/// Asks a desk. No clause says what is replied, which nobody here asks the prover.
-fn ask(alloc: Global, desk: &mut Desk<Hasher>, key: &[u8]) -> Result<Reply, Fail> {
-    Ok(desk.step(serve(alloc, key)?)?)
-}
-
+// What a desk replies is promised, and `tests/replay` asks this backend whatever it can be asked. So two events are enough here.
 #[test]
-fn a_backend_of_a_text_answers_requests(rt: HostRuntime) -> Result<(), Fail> {
+fn a_backend_of_a_text_opens_and_answers_a_list_of_events(rt: HostRuntime) -> Result<(), Fail> {
     let farm = config(&rt, rt.alloc(), TWO_SERVERS);
-    for backend in farm.backends() {
-        each_request_at_a_desk(&rt, rt.alloc(), backend)?;
-    }
+    let is_so = match farm.backends().first() {
+        Some(web) => opens(rt.alloc(), web) && answers(&rt, rt.alloc(), web)?,
+        None => false,
+    };
+    assert!(&rt; is_so);
     Ok(())
 }
 
-#[test]
-fn a_backend_of_a_text_answers_a_list_of_events(rt: HostRuntime) -> Result<(), Fail> {
-    let farm = config(&rt, rt.alloc(), TWO_SERVERS);
-    for backend in farm.backends() {
-        let replies = run(&rt, rt.alloc(), backend)?;
-        assert!(rt; are_owed(&replies), "{replies:?}");
+/// Whether the backend opens as a desk to which nothing has happened.
+fn opens(alloc: Global, backend: &BackendConfig) -> bool {
+    match open(alloc, backend, BuildHasherDefault::<FoldHasher>::new()) {
+        Ok(desk) => (desk.version(), desk.journal().len()) == (0, 0),
+        Err(_) => false,
     }
-    Ok(())
 }
 
-/// Whether the requests got these replies.
-fn are_owed(replies: &[Reply]) -> bool {
-    replies.len() == ASKED.len()
-        && replies
-            .iter()
-            .zip(ASKED)
-            .all(|(reply, (_, at, how))| is_served(reply, *at, *how))
-}
-
-/// The replies to all events in one run, with a seeded hasher.
-fn run(rt: &impl RandomSource, alloc: Global, backend: &BackendConfig) -> Result<Vec<Reply>, Fail> {
-    let mut events = Vec::new(alloc);
-    for (key, _, _) in ASKED {
-        events.push(serve(alloc, *key)?)?;
-    }
-    let seeded = RandomState::new(rt)?;
-    Ok(run_world(alloc, backend, events, seeded)?)
+/// Whether a connection and its end are answered as such, in one run with a seeded hasher.
+fn answers(rt: &impl RandomSource, alloc: Global, backend: &BackendConfig) -> Result<bool, Fail> {
+    let first = ServerId::new(0);
+    let events = vec![in alloc; Event::Open(first), Event::Close(first)]?;
+    let replies = run_world(alloc, backend, events, RandomState::new(rt)?)?;
+    Ok(
+        replies.len() == 2
+            && matches!(replies.first(), Some(Reply::Opened))
+            && matches!(replies.last(), Some(Reply::Closed)),
+    )
 }

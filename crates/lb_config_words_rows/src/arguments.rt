@@ -2,7 +2,7 @@ use lb_config_arguments::{Fault, read_ipv4, read_name, read_number, read_size, r
 use std::net::Ipv4Addr;
 
 /// What a word is read as.
-#[derive(Clone, Copy, Debug)]
+#[derive(Clone, Copy)]
 enum Kind {
     Time,
     Size,
@@ -105,7 +105,7 @@ const ADDRESSES: &[(&str, Option<[u8; 4]>)] = &[
 #[test]
 fn times_sizes_numbers_names_and_addresses(rt: HostRuntime) {
     for (kind, word, wanted) in WORDS {
-        assert_eq!(rt; read(*kind, *word), *wanted, "{kind:?} {word}");
+        assert_eq!(rt; read(*kind, *word), *wanted, "{word}");
     }
     for (text, bytes) in ADDRESSES {
         let wanted = bytes.map(|[a, b, c, d]| Ipv4Addr::new(a, b, c, d));

@@ -2,45 +2,59 @@ use crate::texts::words_of;
 use lb_acl::{AclLine, KeySample, Polarity};
 use lb_config_arguments::{LineError, Words};
 use lb_config_conditions::{
-    UnresolvedAcl, UnresolvedCond, read_declaration, read_pattern, read_server_rule,
+    Alternative, UnresolvedAcl, UnresolvedCond, read_declaration, read_pattern, read_server_rule,
 };
-use std::alloc::{AllocError, Global};
+use std::alloc::Global;
+use std::process::Abort;
 use std::test::Fail;
 
-/// The condition of a rule `use-server`.
-fn cond(alloc: Global, text: &str) -> Result<UnresolvedCond, LineError> {
-    let words = words_of(alloc, text)?;
-    let rule = read_server_rule(&mut Words::new(alloc, &words, None))?;
-    Ok(rule.cond)
+/// What stands behind the alternative in the text that is wanted, if that begins so: tests are joined by `&`, `!` stands before a
+/// negated one, and `{}` for an anonymous ACL.
+fn behind_tests<'a>(alternative: &Alternative, wanted: &'a [u8]) -> Option<&'a [u8]> {
+    let mut rest = wanted;
+    let mut joint: &[u8] = b"";
+    for term in alternative.terms() {
+        rest = rest.strip_prefix(joint)?;
+        if term.is_negated {
+            rest = rest.strip_prefix(b"!")?;
+        }
+        rest = match &term.acl {
+            UnresolvedAcl::Anonymous(_) => rest.strip_prefix(b"{}")?,
+            UnresolvedAcl::Named(name) => rest.strip_prefix(name.as_bytes())?,
+        };
+        joint = b"&";
+    }
+    Some(rest)
 }
 
-/// A condition as a text: alternatives joined by `|`, tests by `&`, `!` before a negated one, `{}` for an anonymous ACL.
-fn shape(alloc: Global, cond: &UnresolvedCond) -> Result<String, AllocError> {
-    let mut text = String::new(alloc);
+/// The same of the whole condition, whose alternatives are joined by `|`.
+fn behind_alternatives<'a>(cond: &UnresolvedCond, wanted: &'a [u8]) -> Option<&'a [u8]> {
+    let mut rest = wanted;
+    let mut joint: &[u8] = b"";
     for alternative in cond.alternatives() {
-        if !text.is_empty() {
-            text.push('|')?;
-        }
-        let mut is_first = true;
-        for term in alternative.terms() {
-            if !is_first {
-                text.push('&')?;
-            }
-            is_first = false;
-            if term.is_negated {
-                text.push('!')?;
-            }
-            match &term.acl {
-                UnresolvedAcl::Anonymous(_) => text.push_str("{}")?,
-                UnresolvedAcl::Named(name) => {
-                    for byte in name.as_bytes() {
-                        text.push(char::from(*byte))?;
-                    }
-                }
-            }
-        }
+        rest = rest.strip_prefix(joint)?;
+        rest = behind_tests(alternative, rest)?;
+        joint = b"|";
     }
-    Ok(text)
+    Some(rest)
+}
+
+/// The condition of the rule `use-server` has this shape and polarity.
+fn expect_cond(
+    rt: &impl Abort,
+    alloc: Global,
+    line: &str,
+    shape: &str,
+    polarity: Polarity,
+) -> Result<(), LineError> {
+    let words = words_of(alloc, line)?;
+    let rule = read_server_rule(&mut Words::new(alloc, &words, None))?;
+    let behind = behind_alternatives(&rule.cond, shape.as_bytes());
+    assert!(rt;
+        matches!(behind, Some([])) && rule.cond.polarity() == polarity,
+        "{line}"
+    );
+    Ok(())
 }
 
 /// Rules, and the shape and polarity of their conditions.
@@ -64,14 +78,8 @@ const CONDITIONS: &[(&str, &str, Polarity)] = &[
 
 #[test]
 fn or_separates_weaker_than_and(rt: HostRuntime) -> Result<(), Fail> {
-    for (line, wanted, polarity) in CONDITIONS {
-        let read = cond(rt.alloc(), *line)?;
-        let shape = shape(rt.alloc(), &read)?;
-        assert_eq!(rt;
-            (shape.as_str(), read.polarity()),
-            (*wanted, *polarity),
-            "{line}"
-        );
+    for (line, shape, polarity) in CONDITIONS {
+        expect_cond(&rt, rt.alloc(), *line, *shape, *polarity)?;
     }
     Ok(())
 }

@@ -3,20 +3,21 @@ use lb_acl::{KeySample, Version};
 use lb_config_lines::{Section, Setting, SocketAddress, Statement, Timeout, read_line};
 use lb_types::Balance;
 use std::alloc::Global;
+use std::process::Abort;
 use std::test::Fail;
 
-/// The setting of a line.
-fn setting(alloc: Global, section: Section, line: &str) -> Result<Setting, Fail> {
-    let words = words_of(alloc, line)?;
-    match read_line(alloc, Some(section), &words, None)? {
-        Statement::Setting(setting) => Ok(setting),
-        Statement::Header(_) | Statement::Ignored(_) => Err(Fail::new("no setting")),
-    }
+/// What the setting of a line is: one that `is_plain` knows by its number; a check by this method, this URI and this version; or a
+/// command socket at this port, or at a path, with words behind its address or without.
+#[derive(Clone, Copy)]
+enum Wanted {
+    Plain(u8),
+    Check(&'static str, &'static str, Version),
+    Socket(Option<u16>, bool),
 }
 
-/// Whether the setting is that of this row of the test below.
-fn is_wanted(row: usize, setting: &Setting) -> bool {
-    match (row, setting) {
+/// Whether the setting is that of this number below.
+fn is_plain(number: u8, setting: &Setting) -> bool {
+    match (number, setting) {
         (0, Setting::Relays(7)) => true,
         (1, Setting::Tries(1000)) => true,
         (2, Setting::Journal(2)) => true,
@@ -55,58 +56,88 @@ fn is_socket(setting: &Setting, port: Option<u16>, has_more: bool) -> bool {
     found == port && socket.has_more == has_more
 }
 
-/// Lines with settings; `is_wanted` knows them by their places.
-const SETTINGS: &[(Section, &str)] = &[
-    (Section::Global, "tune.relays 007"),
-    (Section::Global, "tune.tries 1000"),
-    (Section::Global, "tune.journal 2"),
-    (Section::Defaults, "timeout queue 1500us"),
-    (Section::Frontend, "timeout client 1m"),
-    (Section::Backend, "balance first"),
-    (Section::Listen, "option forwardfor"),
-    (Section::Backend, "stick on req.cook(s)"),
-    (Section::Frontend, "bind :8080"),
-    (Section::Defaults, "default_backend web"),
-];
+fn is_wanted(setting: &Setting, wanted: Wanted) -> bool {
+    match wanted {
+        Wanted::Plain(number) => is_plain(number, setting),
+        Wanted::Check(method, uri, version) => is_check(setting, method, uri, version),
+        Wanted::Socket(port, has_more) => is_socket(setting, port, has_more),
+    }
+}
 
-/// Lines with the method, the URI and the version of a check.
-const CHECKS: &[(&str, &str, &str, Version)] = &[
-    ("option httpchk", "OPTIONS", "/", Version::Http10),
-    ("option httpchk /up", "OPTIONS", "/up", Version::Http10),
-    ("option httpchk HEAD /up", "HEAD", "/up", Version::Http10),
+/// Lines with their settings.
+const SETTINGS: &[(Section, &str, Wanted)] = &[
+    (Section::Global, "tune.relays 007", Wanted::Plain(0)),
+    (Section::Global, "tune.tries 1000", Wanted::Plain(1)),
+    (Section::Global, "tune.journal 2", Wanted::Plain(2)),
+    (Section::Defaults, "timeout queue 1500us", Wanted::Plain(3)),
+    (Section::Frontend, "timeout client 1m", Wanted::Plain(4)),
+    (Section::Backend, "balance first", Wanted::Plain(5)),
+    (Section::Listen, "option forwardfor", Wanted::Plain(6)),
+    (Section::Backend, "stick on req.cook(s)", Wanted::Plain(7)),
+    (Section::Frontend, "bind :8080", Wanted::Plain(8)),
+    (Section::Defaults, "default_backend web", Wanted::Plain(9)),
     (
+        Section::Backend,
+        "option httpchk",
+        Wanted::Check("OPTIONS", "/", Version::Http10),
+    ),
+    (
+        Section::Backend,
+        "option httpchk /up",
+        Wanted::Check("OPTIONS", "/up", Version::Http10),
+    ),
+    (
+        Section::Backend,
+        "option httpchk HEAD /up",
+        Wanted::Check("HEAD", "/up", Version::Http10),
+    ),
+    (
+        Section::Backend,
         "option httpchk GET /up HTTP/1.1",
-        "GET",
-        "/up",
-        Version::Http11,
+        Wanted::Check("GET", "/up", Version::Http11),
+    ),
+    (
+        Section::Global,
+        "stats socket /run/lb.sock",
+        Wanted::Socket(None, false),
+    ),
+    (
+        Section::Global,
+        "stats socket /run/lb.sock mode 600",
+        Wanted::Socket(None, true),
+    ),
+    (
+        Section::Global,
+        "stats socket ipv4@127.0.0.1:9999 level admin",
+        Wanted::Socket(Some(9999), true),
+    ),
+    (
+        Section::Global,
+        "stats socket *:1",
+        Wanted::Socket(Some(1), false),
     ),
 ];
 
-/// Lines with the port of a command socket, where it has one, and whether words stand behind its address.
-const SOCKETS: &[(&str, Option<u16>, bool)] = &[
-    ("stats socket /run/lb.sock", None, false),
-    ("stats socket /run/lb.sock mode 600", None, true),
-    (
-        "stats socket ipv4@127.0.0.1:9999 level admin",
-        Some(9999),
-        true,
-    ),
-    ("stats socket *:1", Some(1), false),
-];
+/// The line has this setting.
+fn expect_setting(
+    rt: &impl Abort,
+    alloc: Global,
+    section: Section,
+    line: &str,
+    wanted: Wanted,
+) -> Result<(), Fail> {
+    let words = words_of(alloc, line)?;
+    let Statement::Setting(setting) = read_line(alloc, Some(section), &words, None)? else {
+        return Err(Fail::new("no setting"));
+    };
+    assert!(rt; is_wanted(&setting, wanted), "{line}");
+    Ok(())
+}
 
 #[test]
 fn settings_are_those_of_their_lines(rt: HostRuntime) -> Result<(), Fail> {
-    for (row, (section, line)) in SETTINGS.iter().enumerate() {
-        let setting = setting(rt.alloc(), *section, line)?;
-        assert!(rt; is_wanted(row, &setting), "{line}");
-    }
-    for (line, method, uri, version) in CHECKS {
-        let check = setting(rt.alloc(), Section::Backend, *line)?;
-        assert!(rt; is_check(&check, *method, *uri, *version), "{line}");
-    }
-    for (line, port, has_more) in SOCKETS {
-        let socket = setting(rt.alloc(), Section::Global, *line)?;
-        assert!(rt; is_socket(&socket, *port, *has_more), "{line}");
+    for (section, line, wanted) in SETTINGS {
+        expect_setting(&rt, rt.alloc(), *section, *line, *wanted)?;
     }
     Ok(())
 }

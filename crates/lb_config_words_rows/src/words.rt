@@ -1,14 +1,15 @@
-use lb_config_words::{Line, SpellingFault, read_lines};
+use lb_config_words::{Line, SpellingFault, Word, read_lines};
 use std::alloc::Global;
 use std::process::Abort;
 use std::test::Fail;
 
-/// The lines of a text that has some.
-fn lines_of(rt: &impl Abort, alloc: Global, text: &[u8]) -> Result<Vec<Line>, Fail> {
-    match read_lines(alloc, text) {
-        Ok(lines) => Ok(lines),
-        Err(fault) => panic!(rt; "{fault:?} in {text:?}"),
+fn are_words(found: &[Word], wanted: &[&str]) -> bool {
+    for (word, text) in found.iter().zip(wanted) {
+        if word.as_bytes() != text.as_bytes() {
+            return false;
+        }
     }
+    found.len() == wanted.len()
 }
 
 /// Whether the text is one line of these words and this ending.
@@ -16,13 +17,16 @@ fn is_line(lines: &[Line], words: &[&str], ending: Option<SpellingFault>) -> boo
     let [line] = lines else {
         return false;
     };
-    line.ending() == ending
-        && line.words().len() == words.len()
-        && line
-            .words()
-            .iter()
-            .zip(words)
-            .all(|(word, wanted)| word.as_bytes() == wanted.as_bytes())
+    line.ending() == ending && are_words(line.words(), words)
+}
+
+fn are_numbered(lines: &[Line], numbers: &[u32]) -> bool {
+    for (line, number) in lines.iter().zip(numbers) {
+        if line.number() != *number {
+            return false;
+        }
+    }
+    lines.len() == numbers.len()
 }
 
 const UNCLOSED: Option<SpellingFault> = Some(SpellingFault::UnclosedQuote);
@@ -122,7 +126,7 @@ const NUMBERED: &[(&[u8], &[u32])] = &[
 /// Each text is one line of these words and this ending.
 fn expect_lines(rt: &impl Abort, alloc: Global, rows: &[Spelled]) -> Result<(), Fail> {
     for (text, words, ending) in rows {
-        let lines = lines_of(rt, alloc, text)?;
+        let lines = read_lines(alloc, text)?;
         assert!(rt; is_line(&lines, words, *ending), "{text:?}");
     }
     Ok(())
@@ -131,13 +135,8 @@ fn expect_lines(rt: &impl Abort, alloc: Global, rows: &[Spelled]) -> Result<(), 
 /// Each text has lines of these numbers.
 fn expect_numbers(rt: &impl Abort, alloc: Global, rows: &[(&[u8], &[u32])]) -> Result<(), Fail> {
     for (text, numbers) in rows {
-        let lines = lines_of(rt, alloc, text)?;
-        let is_so = lines.len() == numbers.len()
-            && lines
-                .iter()
-                .zip(*numbers)
-                .all(|(line, number)| line.number() == *number);
-        assert!(rt; is_so, "{text:?}");
+        let lines = read_lines(alloc, text)?;
+        assert!(rt; are_numbered(&lines, numbers), "{text:?}");
     }
     Ok(())
 }

@@ -3,7 +3,7 @@ use std::alloc::AllocError;
 use std::test::Fail;
 
 /// A kind of pins, in the order of its fields: no place comes before every place.
-#[derive(Clone, Copy, Debug, PartialEq, Eq, PartialOrd, Ord)]
+#[derive(Clone, Copy, PartialEq, Eq, PartialOrd, Ord)]
 struct Kind {
     place: Option<u8>,
     want: u128,
@@ -34,7 +34,7 @@ const WIDE: Kind = Kind {
     cost: 1,
 };
 
-#[derive(Clone, Copy, Debug)]
+#[derive(Clone, Copy)]
 enum Call {
     Add(Kind),
     Remove(Kind),
@@ -62,41 +62,47 @@ fn make(counts: &mut Counts<Kind>, call: Call) -> Result<(), AllocError> {
 }
 
 // Each call, and what is listed after it.
+const CALLS: &[(Call, &[(Kind, u64)])] = &[
+    (Call::Add(DEAR), &[(DEAR, 1)]),
+    (Call::Add(NOWHERE), &[(NOWHERE, 1), (DEAR, 1)]),
+    (Call::Add(DEAR), &[(NOWHERE, 1), (DEAR, 2)]),
+    (
+        Call::Change(DEAR, WIDE),
+        &[(NOWHERE, 1), (DEAR, 1), (WIDE, 1)],
+    ),
+    (
+        Call::Change(NOWHERE, CHEAP),
+        &[(CHEAP, 1), (DEAR, 1), (WIDE, 1)],
+    ),
+    (Call::Change(DEAR, WIDE), &[(CHEAP, 1), (WIDE, 2)]),
+    (Call::Change(CHEAP, CHEAP), &[(CHEAP, 1), (WIDE, 2)]),
+    (Call::Remove(WIDE), &[(CHEAP, 1), (WIDE, 1)]),
+    (Call::Remove(WIDE), &[(CHEAP, 1)]),
+    (Call::Clear, &[]),
+    (Call::Add(CHEAP), &[(CHEAP, 1)]),
+];
+
 #[test]
 fn kinds_rise_and_a_kind_of_which_nothing_is_left_goes(rt: HostRuntime) -> Result<(), Fail> {
-    let calls: [(Call, &[(Kind, u64)]); 11] = [
-        (Call::Add(DEAR), &[(DEAR, 1)]),
-        (Call::Add(NOWHERE), &[(NOWHERE, 1), (DEAR, 1)]),
-        (Call::Add(DEAR), &[(NOWHERE, 1), (DEAR, 2)]),
-        (
-            Call::Change(DEAR, WIDE),
-            &[(NOWHERE, 1), (DEAR, 1), (WIDE, 1)],
-        ),
-        (
-            Call::Change(NOWHERE, CHEAP),
-            &[(CHEAP, 1), (DEAR, 1), (WIDE, 1)],
-        ),
-        (Call::Change(DEAR, WIDE), &[(CHEAP, 1), (WIDE, 2)]),
-        (Call::Change(CHEAP, CHEAP), &[(CHEAP, 1), (WIDE, 2)]),
-        (Call::Remove(WIDE), &[(CHEAP, 1), (WIDE, 1)]),
-        (Call::Remove(WIDE), &[(CHEAP, 1)]),
-        (Call::Clear, &[]),
-        (Call::Add(CHEAP), &[(CHEAP, 1)]),
-    ];
     let mut counts = Counts::new(rt.alloc());
     assert!(rt; counts.is_empty());
-    for (call, wanted) in calls {
-        make(&mut counts, call)?;
-        let mut listed = Vec::new(rt.alloc());
-        for (kind, count) in counts.iter() {
-            listed.push((*kind, *count))?;
-        }
-        assert_eq!(rt; listed.as_slice(), wanted, "after {call:?}");
-        let sizes = (counts.len(), counts.is_empty());
-        assert_eq!(rt; sizes, (wanted.len(), wanted.is_empty()), "after {call:?}");
-        for (kind, count) in wanted {
-            assert_eq!(rt; counts.count(*kind), *count, "after {call:?}");
-        }
+    for (number, (call, wanted)) in CALLS.iter().enumerate() {
+        make(&mut counts, *call)?;
+        assert!(rt; lists(&counts, *wanted), "after call {number}");
     }
     Ok(())
+}
+
+/// Whether these kinds are listed, in this order, and counted.
+fn lists(counts: &Counts<Kind>, wanted: &[(Kind, u64)]) -> bool {
+    if counts.len() != wanted.len() || counts.is_empty() != wanted.is_empty() {
+        return false;
+    }
+    for (listed, wanted) in counts.iter().zip(wanted) {
+        let (kind, count) = *wanted;
+        if *listed.0 != kind || *listed.1 != count || counts.count(kind) != count {
+            return false;
+        }
+    }
+    true
 }

@@ -1,67 +1,78 @@
 use lb_desk_tail::Tail;
-use std::alloc::{AllocError, Global};
+use std::process::Abort;
 use std::test::Fail;
 
 /// The log that the rows are of.
 const LOG: &str = "abcde";
 
-/// Adds an entry, and tells which one was handed out, `-` where none was.
-fn pushed(tail: &mut Tail<char>, entry: char) -> char {
-    if tail.next_number() > 1000 {
-        return '!';
-    }
-    tail.push(entry).unwrap_or('-')
-}
+/// The capacity, what each push hands out (`-` where it is nothing), what is kept in the end, and the number of its first entry.
+type Row = (usize, &'static str, &'static str, u64);
 
-/// The entries that are kept, twice: one by one, and as slices.
-fn kept(alloc: Global, tail: &Tail<char>) -> Result<(String, String), AllocError> {
-    let mut one_by_one = String::new(alloc);
-    for entry in tail.iter() {
-        one_by_one.push(*entry)?;
-    }
-    let mut sliced = String::new(alloc);
-    let (front, back) = tail.as_slices();
-    for part in [front, back] {
-        for entry in part {
-            sliced.push(*entry)?;
-        }
-    }
-    Ok((one_by_one, sliced))
-}
+const ROWS: &[Row] = &[
+    (1, "-abcd", "e", 4),
+    (2, "--abc", "de", 3),
+    (3, "---ab", "cde", 2),
+    (4, "----a", "bcde", 1),
+    (5, "-----", "abcde", 0),
+    (1000000, "-----", "abcde", 0),
+];
 
-// Each row: the capacity, what each push handed out, what is kept in the end, and the number of its first entry.
 #[test]
 fn the_newest_entries_are_kept_and_the_oldest_handed_out(rt: HostRuntime) -> Result<(), Fail> {
-    let cases = [
-        (1, "-abcd", "e", 4),
-        (2, "--abc", "de", 3),
-        (3, "---ab", "cde", 2),
-        (4, "----a", "bcde", 1),
-        (5, "-----", "abcde", 0),
-        (1000000, "-----", "abcde", 0),
-    ];
-    for (capacity, wanted_out, wanted_kept, first) in cases {
-        let mut tail = Tail::new(rt.alloc(), capacity)?;
-        assert!(rt; tail.is_empty() && tail.last().is_none(), "at {capacity}");
-        let mut out = String::new(rt.alloc());
-        for entry in LOG.chars() {
-            out.push(pushed(&mut tail, entry))?;
-        }
-        let (one_by_one, sliced) = kept(rt.alloc(), &tail)?;
-        let texts = (out.as_str(), one_by_one.as_str(), sliced.as_str());
-        assert_eq!(rt;
-            texts,
-            (wanted_out, wanted_kept, wanted_kept),
-            "at {capacity}"
-        );
-        let numbers = (tail.first(), tail.next_number(), tail.capacity());
-        assert_eq!(rt; numbers, (first, 5, capacity));
-        let ends = (tail.last().copied(), tail.len(), tail.is_empty());
-        assert_eq!(rt;
-            ends,
-            (Some('e'), wanted_kept.len(), false),
-            "at {capacity}"
-        );
+    for row in ROWS {
+        let mut tail = Tail::new(rt.alloc(), row.0)?;
+        compare(&rt, &mut tail, *row);
     }
     Ok(())
+}
+
+fn compare(rt: &impl Abort, tail: &mut Tail<char>, row: Row) {
+    let (capacity, out, kept, first) = row;
+    assert!(rt; tail.is_empty() && tail.last().is_none(), "at {capacity}");
+    assert!(rt; hands_out(tail, out), "at {capacity}");
+    assert!(rt;
+        keeps(tail, kept) && has_slices(tail, kept),
+        "at {capacity}"
+    );
+    let numbers = (tail.first(), tail.next_number(), tail.capacity());
+    assert_eq!(rt; numbers, (first, 5, capacity));
+    let ends = (tail.last().copied(), tail.len(), tail.is_empty());
+    assert_eq!(rt; ends, (Some('e'), kept.len(), false), "at {capacity}");
+}
+
+/// Adds the log, and tells whether these entries are handed out.
+fn hands_out(tail: &mut Tail<char>, wanted: &str) -> bool {
+    for (entry, wanted) in LOG.chars().zip(wanted.chars()) {
+        if tail.next_number() > 1000 || tail.push(entry).unwrap_or('-') != wanted {
+            return false;
+        }
+    }
+    true
+}
+
+/// Whether these entries are kept, one by one.
+fn keeps(tail: &Tail<char>, wanted: &str) -> bool {
+    if tail.iter().count() != wanted.len() {
+        return false;
+    }
+    for (entry, wanted) in tail.iter().zip(wanted.chars()) {
+        if *entry != wanted {
+            return false;
+        }
+    }
+    true
+}
+
+/// Whether these entries are kept, as slices.
+fn has_slices(tail: &Tail<char>, wanted: &str) -> bool {
+    let (front, back) = tail.as_slices();
+    if front.len().saturating_add(back.len()) != wanted.len() {
+        return false;
+    }
+    for (entry, wanted) in front.iter().chain(back).zip(wanted.chars()) {
+        if *entry != wanted {
+            return false;
+        }
+    }
+    true
 }

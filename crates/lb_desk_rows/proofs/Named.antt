@@ -1,4 +1,4 @@
--- Servers whose names are the letters a, b and c.
+-- Servers whose names are the letters a and b.
 use Rattle.std.proofs.Common.{◌≡◌, ◌≢◌, ℕ, Bool, true, Option, Ok, List, [], ◌∷◌, refl, sym, ap, ◌∙◌, arith}
 use Rattle.std.specs.Prelude.{AllPairs, slice_index}
 use Rattle.std.proofs.lemmas.List.Elements.{All-cons, All-nil}
@@ -31,12 +31,6 @@ b_is s read =
     let e : 98 ∷ [] ≡ s.name = cc in
     record { is = sym e; named = rw (sym e) refl }
 
-c_is : (s : BackendServer) → name_of (99 ∷ []) ≡ Ok s.name → Letter s 99
-c_is s read =
-    let both : Ok (99 ∷ []) ≡ Ok s.name = read in
-    let e : 99 ∷ [] ≡ s.name = cc in
-    record { is = sym e; named = rw (sym e) refl }
-
 differ : (s t : BackendServer) (i j : ℕ) → i ≢ j → Letter s i → Letter t j → Differ s t
 differ s t i j other first second = λ same.
     let e : i ∷ [] ≡ j ∷ [] = sym first.is ∙ (same ∙ second.is) in
@@ -57,26 +51,4 @@ two_make_a_backend balance all table a b first second =
       distinct =
           AllPairs-cons Differ a (b ∷ []) (All-cons (Differ a) b [] a_b (All-nil (Differ a)))
           (AllPairs-cons Differ b [] (All-nil (Differ b)) none);
-    }
-
-pub three_make_a_backend : (balance : Balance) (all : Bool) (table : Option TableSettings) (a b c : BackendServer)
-    → name_of (97 ∷ []) ≡ Ok a.name → name_of (98 ∷ []) ≡ Ok b.name → name_of (99 ∷ []) ≡ Ok c.name
-    → IsBackend (backend_of_parts balance all table (a ∷ b ∷ c ∷ []))
-three_make_a_backend balance all table a b c first second third =
-    let x = a_is a first in
-    let y = b_is b second in
-    let z = c_is c third in
-    let a_b : Differ a b = differ a b 97 98 (omega arith) x y in
-    let a_c : Differ a c = differ a c 97 99 (omega arith) x z in
-    let b_c : Differ b c = differ b c 98 99 (omega arith) y z in
-    record {
-      few = omega arith;
-      named =
-          All-cons IsNamed a (b ∷ c ∷ []) x.named
-          (All-cons IsNamed b (c ∷ []) y.named (All-cons IsNamed c [] z.named (All-nil IsNamed)));
-      distinct =
-          AllPairs-cons Differ a (b ∷ c ∷ [])
-          (All-cons (Differ a) b (c ∷ []) a_b (All-cons (Differ a) c [] a_c (All-nil (Differ a))))
-          (AllPairs-cons Differ b (c ∷ []) (All-cons (Differ b) c [] b_c (All-nil (Differ b)))
-          (AllPairs-cons Differ c [] (All-nil (Differ c)) none));
     }

@@ -1,28 +1,16 @@
-//! Worked rows of the machine: lists of events, each with the reply that a backend owes it, and the version after each.
+//! One worked list of events, each with the reply that a backend owes it, asked of the plain machine and of the running desk; and what
+//! entries, events, backends and refusals are as values.
 //!
-//! Tests alone, of the plain machine and of the running desk, which is played the same rows. Start at `row`, which says what a row is
-//! and how it is played.
+//! Tests alone. Start at `entries`, which has the list.
 #![tactic(auto)]
 
 #[cfg(test)]
-mod asked;
+mod answers;
+#[cfg(test)]
+mod backends;
 #[cfg(test)]
 mod copies;
 #[cfg(test)]
-mod desks;
+mod entries;
 #[cfg(test)]
-mod farms;
-#[cfg(test)]
-mod installing;
-#[cfg(test)]
-mod model;
-#[cfg(test)]
-mod row;
-#[cfg(test)]
-mod runs;
-#[cfg(test)]
-mod serving;
-#[cfg(test)]
-mod steering;
-#[cfg(test)]
-mod versions;
+mod refusals;

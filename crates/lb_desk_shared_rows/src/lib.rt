@@ -1,8 +1,7 @@
 //! Worked rows of the desk of many threads: what several threads did at it is done again by one, and must be answered the same; and of
-//! seats at such a desk, a planner that clients come in beside among them. And rows of backends at the ends of their ranges, each played
-//! by the plain machine and by the running desk, side by side.
+//! seats at such a desk, a planner that clients come in beside among them.
 //!
-//! Tests alone, of `lb_desk_shared`, `lb_desk_seat`, `lb_desk_planner` and `lb_desk_step`. Start at `threads`, `calls` and `edges`.
+//! Tests alone, of `lb_desk_shared`, `lb_desk_seat` and `lb_desk_planner`. Start at `threads` and `calls`.
 #![tactic(auto)]
 
 #[cfg(test)]
@@ -11,10 +10,6 @@ mod calls;
 mod closings;
 #[cfg(test)]
 mod desks;
-#[cfg(test)]
-mod edge_row;
-#[cfg(test)]
-mod edges;
 #[cfg(test)]
 mod farms;
 #[cfg(test)]

@@ -147,18 +147,3 @@ fn an_address_that_is_taken_is_named(rt: HostRuntime) -> Result<(), Fail> {
     assert_eq!(rt; err.as_slice(), told.as_bytes());
     Ok(())
 }
-
-// A configuration with a fault is not run: the fault is told although its address is taken.
-#[test]
-fn a_fault_is_printed_as_check_prints_it(rt: HostRuntime) -> Result<(), Fail> {
-    let alloc = rt.alloc();
-    let taken = listen(&rt, local(0))?;
-    let port = taken.local_addr()?.port();
-    let text = format!(in alloc; "listen web\n  bind 127.0.0.1:{port}\n  balance uri\n")?;
-    let mut out = Vec::new(alloc);
-    let mut err = Vec::new(alloc);
-    let done = run_text(&rt, alloc, text.as_bytes(), &mut out, &mut err);
-    assert!(rt; matches!(done, Ok(false)) && err.is_empty());
-    assert_eq!(rt; out.as_slice(), b"line 3: 29 LeftOut uri\n".as_slice());
-    Ok(())
-}

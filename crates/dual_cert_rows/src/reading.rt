@@ -1,9 +1,9 @@
-use crate::parts::{GroupRow, ServerRow, are_groups, are_servers};
-use crate::sheets;
-use dual_cert::{read_sheet, write_sheet};
-use lb_types::Counted;
-use std::alloc::Global;
-use std::process::Abort;
+//! What texts are read as, part by part.
+
+use crate::parts::{GroupRow, ServerRow, are_groups, are_servers, is_server, kind, place_of};
+use dual_cert::{PricedServer, read_plan, read_sheet};
+use lb_types::Place;
+use lb_types_pins::{PinKind, Row};
 use std::test::Fail;
 
 /// Texts, with the version, the servers and the groups of their sheets.
@@ -52,23 +52,28 @@ fn sheets_are_read(rt: HostRuntime) -> Result<(), Fail> {
     Ok(())
 }
 
-/// The sheet is written as it was read.
-fn expect_sheet(rt: &impl Abort, alloc: Global, text: &str) -> Result<(), Fail> {
-    let sheet = read_sheet(alloc, text.as_bytes())?;
-    let mut out = Counted::new(Vec::new(alloc));
-    write_sheet(&sheet, &mut out)?;
-    assert_eq!(rt; out.into_inner().as_slice(), text.as_bytes(), "{text}");
-    Ok(())
+fn is_priced(found: &PricedServer, name: &[u8], capacity: Option<u32>, price: u64) -> bool {
+    is_server(&found.server, name, capacity) && found.price == price
+}
+
+fn is_row(found: &Row, kind: PinKind, new_place: Place, count: u32) -> bool {
+    found.kind == kind && found.new_place == new_place && found.count == count
 }
 
 #[test]
-fn sheets_go_round(rt: HostRuntime) -> Result<(), Fail> {
-    for text in sheets::SHEETS {
-        expect_sheet(&rt, rt.alloc(), text)?;
-    }
-    for (count, lines) in sheets::OF_MANY_SERVERS {
-        let text = sheets::sheet_of_servers(rt.alloc(), *count, lines)?;
-        expect_sheet(&rt, rt.alloc(), &text)?;
-    }
+fn a_plan_is_read(rt: HostRuntime) -> Result<(), Fail> {
+    let text =
+        "stickyplan 2\nversion 7\nserver a off\nserver b cap 1 price 9\nserver c cap 4 price 0\n\
+        row 1 a b b 3\nrow 2 b - b,c 1\nend\n";
+    let plan = read_plan(rt.alloc(), text.as_bytes())?;
+    let ([a, b, c], [first, second]) = (plan.servers(), plan.rows()) else {
+        return Err(Fail::new("the plan has three servers and two rows"));
+    };
+    assert!(rt; plan.version() == 7);
+    assert!(rt; is_priced(a, b"a", None, 0));
+    assert!(rt; is_priced(b, b"b", Some(1), 9));
+    assert!(rt; is_priced(c, b"c", Some(4), 0));
+    assert!(rt; is_row(first, kind(Some(0), &[1], 3), place_of(Some(1)), 1));
+    assert!(rt; is_row(second, kind(Some(1), &[1, 2], 1), None, 2));
     Ok(())
 }

@@ -1,10 +1,8 @@
-use crate::relaying::{client_address, joined};
-use http_relay_forward::{BodyKind, rewrite};
+use http_relay_forward::BodyKind;
 use http_relay_head::{HEAD_ROOM, HeadFault, read_head};
 use http_relay_wire::{Script, ScriptedWire};
-use lb_acl::Version;
-use std::alloc::Global;
-use std::process::Abort;
+use std::alloc::{AllocError, Global};
+use std::net::Ipv4Addr;
 use std::test::Fail;
 
 type Verdict = Result<BodyKind, HeadFault>;
@@ -31,14 +29,34 @@ fn verdict(alloc: Global, bytes: &[u8], pieces: &[usize]) -> Verdict {
     };
     let mut wire = ScriptedWire::new(alloc, bytes, script);
     let mut room = [0; HEAD_ROOM];
-    let head = read_head(alloc, &mut wire, &mut room, client_address())?;
+    let head = read_head(alloc, &mut wire, &mut room, Ipv4Addr::new(10, 0, 0, 7))?;
     Ok(head.body_kind())
+}
+
+// Whether this is told of a front, so many times the middle, and the end, in whatever pieces they come.
+fn is_told(
+    alloc: Global,
+    front: &[u8],
+    (middle, times): (&[u8], usize),
+    end: &[u8],
+    expected: Verdict,
+) -> Result<bool, AllocError> {
+    let mut bytes = Vec::from_slice(alloc, front)?;
+    for _ in 0..times {
+        bytes.extend_from_slice(middle)?;
+    }
+    bytes.extend_from_slice(end)?;
+    Ok(
+        verdict(alloc, &bytes, &[]) == expected
+            && verdict(alloc, &bytes, &[1]) == expected
+            && verdict(alloc, &bytes, &[40, 7]) == expected,
+    )
 }
 
 const POST: &[u8] = b"POST /p HTTP/1.1\r\n";
 
 // Lines of a head of HTTP/1.1 that tell of no body.
-const NO_BODY: [(&[u8], Verdict); 9] = [
+const NO_BODY: &[(&[u8], Verdict)] = &[
     (b"", NONE),
     (b"Host: x\r\n", NONE),
     (b"Host: x\r\nHost: y\r\n", NONE),
@@ -51,7 +69,7 @@ const NO_BODY: [(&[u8], Verdict); 9] = [
 ];
 
 // Lines of one length, or of chunks.
-const LENGTHS_AND_CHUNKS: [(&[u8], Verdict); 11] = [
+const LENGTHS_AND_CHUNKS: &[(&[u8], Verdict)] = &[
     (b"Content-Length: 3\r\n", THREE),
     (b"content-length:3\r\n", THREE),
     (b"CONTENT-LENGTH: \t 3\t \r\n", THREE),
@@ -65,11 +83,13 @@ const LENGTHS_AND_CHUNKS: [(&[u8], Verdict); 11] = [
         Ok(BodyKind::Length(999_999_999_999_999_999)),
     ),
     (b"Transfer-Encoding: chunked\r\n", CHUNKS),
+    (b"Transfer-Encoding: Chunked\r\n", CHUNKS),
+    (b"Content-Length: 003\r\ncontent-length:  3\r\n", THREE),
     (b"transfer-encoding:\tCHUNKED \r\n", CHUNKS),
 ];
 
 // Two lengths, or a length beside chunks. A length that is none is told first.
-const BESIDE_A_LENGTH: [(&[u8], Verdict); 8] = [
+const BESIDE_A_LENGTH: &[(&[u8], Verdict)] = &[
     (b"Content-Length: 3\r\nContent-Length: 4\r\n", BOTH),
     (
         b"Content-Length: 3\r\nContent-Length: 3\r\nContent-Length: 4\r\n",
@@ -84,7 +104,7 @@ const BESIDE_A_LENGTH: [(&[u8], Verdict); 8] = [
 ];
 
 // Lengths that are none.
-const NO_LENGTHS: [(&[u8], Verdict); 14] = [
+const NO_LENGTHS: &[(&[u8], Verdict)] = &[
     (b"Content-Length:\r\n", BAD),
     (b"Content-Length: +3\r\n", BAD),
     (b"Content-Length: -3\r\n", BAD),
@@ -102,7 +122,7 @@ const NO_LENGTHS: [(&[u8], Verdict); 14] = [
 ];
 
 // Codings that are not the one.
-const OTHER_CODINGS: [(&[u8], Verdict); 14] = [
+const OTHER_CODINGS: &[(&[u8], Verdict)] = &[
     (b"Transfer-Encoding:\r\n", BAD),
     (b"Transfer-Encoding: identity\r\n", BAD),
     (b"Transfer-Encoding: gzip\r\n", BAD),
@@ -126,7 +146,7 @@ const OTHER_CODINGS: [(&[u8], Verdict); 14] = [
 ];
 
 // Connection must not take the host or the body away.
-const CONNECTIONS: [(&[u8], Verdict); 5] = [
+const CONNECTIONS: &[(&[u8], Verdict)] = &[
     (b"Connection: host\r\nHost: x\r\n", BAD),
     (b"Connection: Host\r\n", BAD),
     (b"Connection: content-length\r\nContent-Length: 3\r\n", BAD),
@@ -135,7 +155,7 @@ const CONNECTIONS: [(&[u8], Verdict); 5] = [
 ];
 
 // Lines that readers part differently.
-const PARTED_LINES: [(&[u8], Verdict); 8] = [
+const PARTED_LINES: &[(&[u8], Verdict)] = &[
     (b"Content-Length : 3\r\n", BAD),
     (b"Transfer-Encoding\t: chunked\r\n", BAD),
     (b" Host: x\r\n", BAD),
@@ -147,7 +167,7 @@ const PARTED_LINES: [(&[u8], Verdict); 8] = [
 ];
 
 // Bytes that stand in no name or no value, some of them line ends to other readers.
-const OTHER_BYTES: [(&[u8], Verdict); 8] = [
+const OTHER_BYTES: &[(&[u8], Verdict)] = &[
     (b"X: a\0b\r\n", BAD),
     (b"X\0: 1\r\n", BAD),
     (b"X: a\rContent-Length: 3\r\n", BAD),
@@ -159,13 +179,18 @@ const OTHER_BYTES: [(&[u8], Verdict); 8] = [
 ];
 
 // Whole heads whose versions and bodies are told apart.
-const VERSIONS_AND_BODIES: [(&[u8], Verdict); 12] = [
+const VERSIONS_AND_BODIES: &[(&[u8], Verdict)] = &[
     (b"GET / HTTP/1.1\r\n\r\n", NONE),
     (b"GET / HTTP/1.0\n\n", NONE),
     (b"\r\n\n\r\nGET / HTTP/1.1\r\n\r\n", NONE),
     (b"connect x:443 HTTP/1.1\r\n\r\n", NONE),
     (b"GET http://h/a?b HTTP/1.1\r\n\r\n", NONE),
     (b"POST / HTTP/1.0\r\nContent-Length: 3\r\n\r\n", THREE),
+    (
+        b"PUT / HTTP/1.0\r\ncontent-length:  010 \r\n\r\n",
+        Ok(BodyKind::Length(10)),
+    ),
+    (b"PUT / HTTP/1.0\r\nTransfer-Encoding: Chunked\r\n\r\n", BAD),
     (
         b"POST / HTTP/1.0\r\nTransfer-Encoding: chunked\r\n\r\n",
         BAD,
@@ -181,7 +206,7 @@ const VERSIONS_AND_BODIES: [(&[u8], Verdict); 12] = [
 ];
 
 // Whole heads whose first lines are none.
-const FIRST_LINES: [(&[u8], Verdict); 10] = [
+const FIRST_LINES: &[(&[u8], Verdict)] = &[
     (b"GET /\r\n\r\n", BAD),
     (b"GET  / HTTP/1.1\r\n\r\n", BAD),
     (b"GET\t/ HTTP/1.1\r\n\r\n", BAD),
@@ -195,7 +220,7 @@ const FIRST_LINES: [(&[u8], Verdict); 10] = [
 ];
 
 // Less than a head.
-const CUT_HEADS: [(&[u8], Verdict); 6] = [
+const CUT_HEADS: &[(&[u8], Verdict)] = &[
     (b"", CUT),
     (b"\r\n", CUT),
     (b"GET / HTT", CUT),
@@ -204,39 +229,30 @@ const CUT_HEADS: [(&[u8], Verdict); 6] = [
     (b"GET / HTTP/1.1\r\nHost: x\r\n\r", CUT),
 ];
 
-// What is told of each row, between this front and this end.
-fn expect_verdicts(
-    rt: &impl Abort,
-    alloc: Global,
-    front: &[u8],
-    end: &[u8],
-    rows: &[(&[u8], Verdict)],
-) -> Result<(), Fail> {
-    for (row, expected) in rows {
-        let bytes = joined(alloc, front, row, 1, end)?;
-        assert!(rt; verdict(alloc, &bytes, &[]) == *expected, "{row:?}");
-    }
-    Ok(())
-}
-
-// What is told of a request with each of the lines.
-fn expect_of_lines(rt: &impl Abort, alloc: Global) -> Result<(), Fail> {
-    expect_verdicts(rt, alloc, POST, b"\r\n", &NO_BODY)?;
-    expect_verdicts(rt, alloc, POST, b"\r\n", &LENGTHS_AND_CHUNKS)?;
-    expect_verdicts(rt, alloc, POST, b"\r\n", &BESIDE_A_LENGTH)?;
-    expect_verdicts(rt, alloc, POST, b"\r\n", &NO_LENGTHS)?;
-    expect_verdicts(rt, alloc, POST, b"\r\n", &OTHER_CODINGS)?;
-    expect_verdicts(rt, alloc, POST, b"\r\n", &CONNECTIONS)?;
-    expect_verdicts(rt, alloc, POST, b"\r\n", &PARTED_LINES)?;
-    expect_verdicts(rt, alloc, POST, b"\r\n", &OTHER_BYTES)
-}
+// What stands before and behind each row of a table.
+const TABLES: &[(&[u8], &[u8], &[(&[u8], Verdict)])] = &[
+    (POST, b"\r\n", NO_BODY),
+    (POST, b"\r\n", LENGTHS_AND_CHUNKS),
+    (POST, b"\r\n", BESIDE_A_LENGTH),
+    (POST, b"\r\n", NO_LENGTHS),
+    (POST, b"\r\n", OTHER_CODINGS),
+    (POST, b"\r\n", CONNECTIONS),
+    (POST, b"\r\n", PARTED_LINES),
+    (POST, b"\r\n", OTHER_BYTES),
+    (b"", b"", VERSIONS_AND_BODIES),
+    (b"", b"", FIRST_LINES),
+    (b"", b"", CUT_HEADS),
+];
 
 #[test]
 fn heads_and_their_verdicts(rt: HostRuntime) -> Result<(), Fail> {
-    expect_of_lines(&rt, rt.alloc())?;
-    expect_verdicts(&rt, rt.alloc(), b"", b"", &VERSIONS_AND_BODIES)?;
-    expect_verdicts(&rt, rt.alloc(), b"", b"", &FIRST_LINES)?;
-    expect_verdicts(&rt, rt.alloc(), b"", b"", &CUT_HEADS)
+    for (front, end, rows) in TABLES {
+        for (row, expected) in *rows {
+            let told = is_told(rt.alloc(), front, (row, 1), end, *expected)?;
+            assert!(rt; told, "{row:?}");
+        }
+    }
+    Ok(())
 }
 
 const GET: &[u8] = b"GET / HTTP/1.1\r\nXxx: ";
@@ -245,17 +261,14 @@ const GET: &[u8] = b"GET / HTTP/1.1\r\nXxx: ";
 type Repeated = (&'static [u8], &'static [u8], usize, &'static [u8], Verdict);
 
 // Heads at the limits of 16384 bytes and 100 fields, and beyond.
-const AT_LIMITS: [Repeated; 5] = [
+const REPEATED: &[Repeated] = &[
     (GET, b"x", 16359, b"\r\n\r\n", NONE),
     (GET, b"x", 16360, b"\r\n\r\n", LARGE),
     (GET, b"x", 39975, b"\r\n\r\n", LARGE),
     (POST, b"X: 1\r\n", 100, b"\r\n", NONE),
     (POST, b"X: 1\r\n", 101, b"\r\n", LARGE),
-];
-
-// Heads with two faults. Of the parser, fields beyond the limit are 90 and any other error 91, whichever it meets first; what the rules
-// refuse is judged in a head that was parsed.
-const OF_TWO_FAULTS: [Repeated; 13] = [
+    // Heads with two faults. Of the parser, fields beyond the limit are 90 and any other error 91, whichever it meets first; what the rules
+    // refuse is judged in a head that was parsed.
     (POST, b"X: 1\r\n", 101, b"Bad Name: 1\r\n\r\n", LARGE),
     (POST, b"X: 1\r\n", 101, b"Host\r\n\r\n", LARGE),
     (POST, b"X: 1\r\n", 101, b"X: a\0b\r\n\r\n", LARGE),
@@ -319,52 +332,11 @@ const OF_TWO_FAULTS: [Repeated; 13] = [
     ),
 ];
 
-// What is told of each row, in whatever pieces it comes.
-fn expect_in_pieces(rt: &impl Abort, alloc: Global, rows: &[Repeated]) -> Result<(), Fail> {
-    for (front, middle, times, end, expected) in rows {
-        let bytes = joined(alloc, front, middle, *times, end)?;
-        for pieces in [[].as_slice(), &[1], &[40, 7]] {
-            assert!(rt;
-                verdict(alloc, &bytes, pieces) == *expected,
-                "{front:?}, {times} times, {end:?}"
-            );
-        }
-    }
-    Ok(())
-}
-
 #[test]
 fn heads_at_the_limits_and_of_two_faults(rt: HostRuntime) -> Result<(), Fail> {
-    expect_in_pieces(&rt, rt.alloc(), &AT_LIMITS)?;
-    expect_in_pieces(&rt, rt.alloc(), &OF_TWO_FAULTS)
-}
-
-const UPLOAD: &[u8] =
-    b"POST /up HTTP/1.1\r\nHost: x\r\nConnection: keep-alive, X-Foo\r\nX-Foo: 1\r\nTransfer-Encoding: chunked\r\n\r\n";
-
-const UPLOAD_SENT: &[u8] =
-    b"POST /up HTTP/1.1\r\nHost: x\r\nTransfer-Encoding: chunked\r\nConnection: close\r\n\r\n";
-
-#[test]
-fn a_head_has_its_parts_and_no_byte_of_the_body_is_lost(rt: HostRuntime) -> Result<(), Fail> {
-    let bytes = joined(rt.alloc(), UPLOAD, b"10\r\n01234", 1, b"")?;
-    for pieces in [[].as_slice(), &[1], &[7, 50]] {
-        let script = Script {
-            pieces,
-            ..Script::SMOOTH
-        };
-        let mut wire = ScriptedWire::new(rt.alloc(), &bytes, script);
-        let mut room = [0; HEAD_ROOM];
-        let read = read_head(rt.alloc(), &mut wire, &mut room, client_address())?;
-        let head = read.head();
-        let has_its_parts = head.method() == b"POST".as_slice()
-            && head.target() == b"/up".as_slice()
-            && head.version() == Version::Http11
-            && head.source() == client_address()
-            && head.fields().len() == 4;
-        let is_forwarded = rewrite(rt.alloc(), &head, false)?.as_slice() == UPLOAD_SENT;
-        let behind = read.rest().len() + wire.unread().len();
-        assert!(rt; has_its_parts && is_forwarded && behind == 9, "{pieces:?}");
+    for (front, middle, times, end, expected) in REPEATED {
+        let told = is_told(rt.alloc(), front, (middle, *times), end, *expected)?;
+        assert!(rt; told, "{front:?}, {times} times, {end:?}");
     }
     Ok(())
 }
