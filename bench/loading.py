@@ -116,12 +116,12 @@ def resident(process: int) -> float:
     return kilobytes / 1024
 
 
-def origins(folder: Path, cores: str) -> subprocess.Popen[bytes]:
-    """Two servers that answer at once, by `origin.c`, which is built in this folder."""
+def origins(folder: Path, cores: str, late: int = 0) -> subprocess.Popen[bytes]:
+    """Two servers that answer at once, or so many milliseconds late, by `origin.c`, which is built in this folder."""
     program = str(folder / "origin")
     subprocess.run(["gcc", "-O2", "-Wall", "-pthread", "-o", program, str(BENCH / "origin.c")], check=True)
     own = parted(cores)[1]
-    running = started([program, str(len(own.split(","))), *map(str, ORIGINS)], own)
+    running = started([program, "-w", str(late), str(len(own.split(","))), *map(str, ORIGINS)], own)
     for port in ORIGINS:
         wait_for(port)
     return running

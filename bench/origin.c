@@ -2,9 +2,11 @@
  * own where there are enough, so that what is measured is the balancers' pace and not that of servers.
  *
  *     origin THREADS PORT..
+ *     origin -w MILLIS THREADS PORT..
  *
  * It listens at each port of 127.0.0.1, in so many threads. The system hands on a connection when its request is there
- * (TCP_DEFER_ACCEPT), and it is answered and closed at once: four calls a request. It reads one piece, so requests have no body.
+ * (TCP_DEFER_ACCEPT), and it is answered and closed at once: four calls a request. With -w it is answered so many milliseconds later, and
+ * others are taken meanwhile. It reads one piece, so requests have no body.
  */
 #define _GNU_SOURCE
 #include <arpa/inet.h>
@@ -15,8 +17,10 @@
 #include <signal.h>
 #include <stdio.h>
 #include <stdlib.h>
+#include <string.h>
 #include <sys/epoll.h>
 #include <sys/socket.h>
+#include <time.h>
 #include <unistd.h>
 
 static const char ANSWER[] = "HTTP/1.1 200 OK\r\nContent-Length: 10\r\nConnection: close\r\n\r\nthis is a\n";
@@ -45,19 +49,55 @@ static void answer(int connection) {
     close(connection);
 }
 
+/* How long a request waits for its answer, in milliseconds. */
+static long late;
+
+static long now(void) {
+    struct timespec at;
+    clock_gettime(CLOCK_MONOTONIC, &at);
+    return at.tv_sec * 1000 + at.tv_nsec / 1000000;
+}
+
+/* Connections that wait for their answers, in the order in which these are due: all wait for as long. */
+enum { ROOM = 65536 };
+struct queue {
+    struct { int connection; long due; } places[ROOM];
+    unsigned first, next;
+};
+
+static void put(struct queue *waiting, int connection) {
+    if (waiting->next - waiting->first == ROOM) fail("too many wait");
+    waiting->places[waiting->next % ROOM].connection = connection;
+    waiting->places[waiting->next++ % ROOM].due = now() + late;
+}
+
+/* Answers those whose answers are due, and says how long it is to the next one, or -1. */
+static int answer_due(struct queue *waiting) {
+    while (waiting->first != waiting->next) {
+        long left = waiting->places[waiting->first % ROOM].due - now();
+        if (left > 0) return left;
+        answer(waiting->places[waiting->first++ % ROOM].connection);
+    }
+    return -1;
+}
+
 /* Serves the ports of a list that ends with 0. */
 static void *serve(void *ports) {
     struct epoll_event ready[16];
+    struct queue *waiting = calloc(1, sizeof *waiting);
     int watch = epoll_create1(0);
     for (int *port = ports; *port; port++) {
         int listening = listener(*port);
         struct epoll_event wanted = {.events = EPOLLIN, .data.fd = listening};
         if (epoll_ctl(watch, EPOLL_CTL_ADD, listening, &wanted)) fail("epoll_ctl");
     }
-    for (int count; (count = epoll_wait(watch, ready, 16, -1)) >= 0 || errno == EINTR;) {
+    for (int count; (count = epoll_wait(watch, ready, 16, answer_due(waiting))) >= 0 || errno == EINTR;) {
         for (int at = 0; at < count; at++) {
             int connection;
-            while ((connection = accept4(ready[at].data.fd, NULL, NULL, 0)) >= 0) answer(connection);
+            while ((connection = accept4(ready[at].data.fd, NULL, NULL, 0)) >= 0) {
+                if (late) put(waiting, connection);
+                else answer(connection);
+            }
         }
     }
     fail("epoll_wait");
@@ -65,8 +105,12 @@ static void *serve(void *ports) {
 }
 
 int main(int count, char **words) {
+    if (count > 2 && !strcmp(words[1], "-w")) {
+        late = atol(words[2]);
+        words += 2, count -= 2;
+    }
     if (count < 3) {
-        fputs("origin THREADS PORT..\n", stderr);
+        fputs("origin [-w MILLIS] THREADS PORT..\n", stderr);
         return 2;
     }
     int *ports = calloc(count - 1, sizeof *ports);

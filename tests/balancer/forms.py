@@ -1,5 +1,5 @@
 """Forms of requests by which a client may try to smuggle a second one past the balancer, in families. Each has the verdict that is due to
-it by the forwarding profile of docs/OPERATING.md; the forms whose head is at fault are here, those of bodies in `chunk_forms`."""
+it by the forwarding profile of docs/CONFIGURATION.md; the forms whose head is at fault are here, those of bodies in `chunk_forms`."""
 
 from __future__ import annotations
 

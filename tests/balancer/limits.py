@@ -68,19 +68,32 @@ def too_many_open_files_end_nothing_and_silent_clients_keep_nobody_out(farm: Far
 
 
 @case
-def more_clients_than_its_line_holds_wait_for_one_worker(farm: Farm) -> None:
-    gate, port = Gate(answers(b"a")), farm.port()
-    balancer = farm.start(listen(port, *LIMITS, server("a", farm.origin(gate))), ("tune.relays 1",))
+def more_clients_than_workers_and_the_line_hold_are_served_in_the_end(farm: Farm) -> None:
+    port = farm.port()
     with contextlib.ExitStack() as stack:
-        # 1,024 wait in the line, and the others as the system has it.
-        clients = [stack.enter_context(Client(port)) for _ in range(1100)]
+        late = stack.enter_context(socket.socket())
+        late.bind((HOST, 0))
+        late.listen(4096)
+        balancer = farm.start(listen(port, *LIMITS, server("a", late.getsockname()[1])), ("tune.relays 64",))
+        # 2,112 workers wait for the server, 1,024 clients wait in the line, and the others as the system has it.
+        clients = [stack.enter_context(Client(port)) for _ in range(3300)]
         for client in clients:
             client.send(GET)
-        gate.wait_for(1)
+        workers = 64 + 2048
+        wait_until(f"there are {workers} workers", lambda: len(os.listdir(f"/proc/{balancer.process.pid}/task")) > workers)
         expect_equal("operators are answered meanwhile", balancer.tell("show plan web"), "no plan\n\n")
-        gate.open()
-        expect_equal("the answers", answers_as_they_come(clients), [A] * 1100)
-    expect_equal("events", ends_well(balancer), {"web": 4400})
+        threading.Thread(target=answer_all, args=(late, len(clients)), daemon=True).start()
+        expect_equal("the answers", answers_as_they_come(clients), [A] * len(clients))
+    expect_equal("events", ends_well(balancer), {"web": 4 * 3300})
+
+
+def answer_all(late: socket.socket, count: int) -> None:
+    """Answers so many requests, one after another."""
+    for _ in range(count):
+        stream, _ = late.accept()
+        with stream:
+            stream.recv(1 << 16)
+            stream.sendall(A)
 
 
 @case

@@ -64,7 +64,7 @@ class Repository:
         return total.hexdigest()
 
     def sum_of_texts(self, crate: str) -> str:
-        """Returns the sum over what the prover reads of this crate alone, without its tests."""
+        """Returns the sum over what the prover reads of this crate alone, without its tests and comments."""
         if crate not in self.sums:
             head, uses = self.lines[crate]
             said = repr((head, sorted(uses), texts_without_tests(self.texts(crate))))
@@ -134,11 +134,12 @@ def logic_of_toolchain() -> str:
     return version.rpartition(" logic ")[2]
 
 
+REMARK = re.compile(r"^[ \t]*(?://|--).*\n", re.M)
 TESTS = re.compile(r"\s*#\[cfg\(test\)\]\s*mod\s+(\w+)\s*([;{])")
 
 
 def texts_without_tests(folder: str) -> List[Tuple[str, str]]:
-    """Returns the texts that the prover reads of a crate, by path, without its modules of tests."""
+    """Returns the texts that the prover reads of a crate, by path, without its modules of tests and without lines that are comments."""
     found, tests = {}, set()
     for part in PARTS:
         for at, _, names in os.walk(f"{folder}/{part}"):
@@ -158,7 +159,7 @@ def texts_without_tests(folder: str) -> List[Tuple[str, str]]:
                 tests.add(f"{above}/{mark[1]}")
                 text = text[: mark.start()] + text[end:]
             text = text.rstrip() + "\n"
-        texts[short] = text
+        texts[short] = REMARK.sub("", text)
     of_tests = tuple([f"{it}.rt" for it in tests] + [f"{it}/" for it in tests])
     return sorted((short, text) for short, text in texts.items() if not short.startswith(of_tests or ("\0",)))
 

@@ -17,6 +17,7 @@ from trying.source import types_of
 
 KEPT = "out/incremental"
 BYTES_A_JOB = 3_000_000_000
+RT = os.path.join(os.path.dirname(os.path.realpath(__file__)), "../../tools/rt")
 
 
 class Runs:
@@ -31,7 +32,7 @@ class Runs:
             if self.is_stopped:
                 raise Fault("stopped")
             started = subprocess.Popen(
-                ["rt", *words], cwd=folder, stdin=subprocess.DEVNULL, stdout=subprocess.PIPE, stderr=subprocess.STDOUT
+                [RT, *words], cwd=folder, stdin=subprocess.DEVNULL, stdout=subprocess.PIPE, stderr=subprocess.STDOUT
             )
             self.running.add(started)
         try:

@@ -24,7 +24,7 @@ pub(crate) fn try_random<R: Runtime + RandomSource>(
     tell(rt, alloc, "a hasher of fixed seed", &unseeded)
 }
 
-/// Tells what was tried; the counts of each kind of reply go to standard error.
+/// Prints what was tried; the counts of each kind of reply go to standard error.
 fn tell(rt: &impl Runtime, alloc: Global, hasher: &str, tried: &Tried) -> Result<()> {
     let (came, kinds) = tried.kinds.came();
     println!(rt;

@@ -1,8 +1,8 @@
 //! The checker and the planner against all assignments of the pins, on all small farms.
 //!
-//! The words are jobs of five words each: `views` or `sheets`, how many servers and pins the farms have, the slice's number,
-//! from 0 on, and the number of slices. Of each job is printed how many farms were tried, and in the end how many plans the
-//! checker judged. At the first farm on which the two don't agree, it is printed, and the status is 1.
+//! The words are jobs of five words each: `views` or `sheets`, how many servers and pins the farms have, the slice's number from 0
+//! on, and the number of slices. For each job it prints how many farms were tried, and in the end how many plans the checker judged.
+//! The first farm on which the two don't agree is printed, and the status is 1.
 
 use anyhow::{Context, Result, bail};
 use small_farms::{Bounds, Farms, PINS, Permitted, SERVERS, sheet_agrees, view_agrees};

@@ -1,4 +1,4 @@
-//! All measurements, in one program. The first word of the command line says which, and those behind it are the
+//! All measurements, in one program. The first word of the command line selects one, and the words after it are the
 //! measurement's own: each has a module, whose head says what they mean.
 //!
 //! The word `all-small` takes each measurement once, on little input. What was done is printed, and is the same on every

@@ -1,9 +1,8 @@
 //! How long a plan takes, from the text of a sheet to the text of its plan, and how long a check of that text.
 //!
-//! The words say what the sheet is like: servers, groups, pins, servers that are off, room in percent of the pins, servers that
-//! a pin may go to, the most cost of a move, and a seed. Of each sheet the same is printed: what was asked for, that the
-//! checker accepts the plan that was written, and that no more pushes and looks were made than is proved. Times, pushes and
-//! looks go to standard error.
+//! The words say what the sheet is like: servers, groups, pins, servers that are off, room in percent of the pins, servers that a pin
+//! may go to, the most cost of a move, and a seed. The same is printed for each sheet: what was asked for, that the checker accepts
+//! the written plan, and that pushes and looks stayed within what is proved. Times, pushes and looks go to standard error.
 
 mod dice;
 mod farm;
@@ -35,7 +34,7 @@ pub(crate) fn run(rt: &impl Runtime, alloc: Global, words: &[&str]) -> Result<()
     measure(rt, alloc, &farm, text.as_bytes())
 }
 
-/// Plans what the text of the farm's sheet asks for, and tells what came of it.
+/// Plans what the text of the farm's sheet asks for, and prints what came of it.
 fn measure(rt: &impl Runtime, alloc: Global, farm: &Farm, text: &[u8]) -> Result<()> {
     let mut bytes = Vec::with_capacity(alloc, text.len())?;
     let work = make_plan(rt, alloc, text, &mut bytes)?;
@@ -43,7 +42,7 @@ fn measure(rt: &impl Runtime, alloc: Global, farm: &Farm, text: &[u8]) -> Result
     judge(rt, alloc, farm, text, &bytes)
 }
 
-/// Tells whether the second text is that of a plan for the sheet of the first one.
+/// Prints whether the second text is that of a plan for the sheet of the first one.
 fn judge(rt: &impl Runtime, alloc: Global, farm: &Farm, sheet: &[u8], text: &[u8]) -> Result<()> {
     let sheet = read_sheet(alloc, sheet)?;
     let start = Instant::now(rt)?;
@@ -85,7 +84,7 @@ fn write(plan: &Plan, bytes: &mut Vec<u8>) -> Result<()> {
     Ok(())
 }
 
-/// Tells how much work it was, and whether it is within what is proved: a push a pin, and a look for each group and each two
+/// Prints how much work it was, and whether it is within what is proved. That is a push a pin, and a look for each group and each two
 /// options a push.
 fn tell_work(rt: &impl Runtime, farm: &Farm, work: Work) -> Result<()> {
     let options = u128::from(farm.servers).saturating_add(2);
@@ -104,7 +103,8 @@ fn tell_work(rt: &impl Runtime, farm: &Farm, work: Work) -> Result<()> {
     Ok(())
 }
 
-/// Tells whether the plan, whose text is read from the start on, is one for so many pins that the checker accepts for the sheet.
+/// Prints whether the checker accepts the plan for the sheet, with as many pins as the farm has. Reading the plan's text began at
+/// `start`.
 fn tell_verdict(
     rt: &impl Runtime,
     farm: &Farm,

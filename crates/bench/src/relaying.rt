@@ -1,10 +1,12 @@
 //! Heads, bodies and responses that are relayed over memory, to be timed from outside.
 //!
 //! The first word says how often, the second one what: `heads`, `hostile`, `bodies`, `chunks`, `small_chunks`, `size_lines`,
-//! `trailers` or `responses`; with no second word all of them. A head has 500 bytes and 12 fields, a hostile one nearly the most
-//! bytes and fields that it may have; each is read, judged and rewritten. A body has 1,024,000 bytes, but for those that are
-//! hostile: 1,000 chunks of a byte whose size lines are as long as they may be, and a trailer of one field that is nearly as long
-//! as it may be. How many bytes went out is printed, so that no work can be left out.
+//! `trailers` or `responses`; without a second word, all of them. The number of bytes that went out is printed, so that no work can
+//! be left out.
+//!
+//! A head has 500 bytes and 12 fields, a hostile one nearly the most bytes and fields that it may have. Each is read, judged and
+//! rewritten. A body has 1,024,000 bytes. Two bodies are hostile: 1,000 chunks of a byte whose size lines are as long as they may be,
+//! and a trailer of one field that is nearly as long as it may be.
 
 ghost use Rattle.std.specs.Prelude.{◌<◌};
 
@@ -147,7 +149,7 @@ fn plain(alloc: Global) -> Result<Vec<u8>, AllocError> {
     Ok(vec![in alloc; b'x'; SIZE]?)
 }
 
-/// The same in chunks of so many bytes, each behind this size line.
+/// The same in chunks of so many bytes, each after this size line.
 fn chunked(alloc: Global, size: usize, size_line: &[u8]) -> Result<Vec<u8>, AllocError>
     requires { 0 < size }
 {

@@ -1,6 +1,6 @@
-//! How long `group`, `check` and `spread` take on a view of as many pins as the one word says, half of which move, with a
-//! plan of up to 1,000 rows. Making the view and the plan isn't timed. What was done is printed; the microseconds from the
-//! start of `group` to the end of each of the three calls go to standard error.
+//! How long `group`, `check` and `spread` take on a view. The one word says how many pins it has; half of them move, with
+//! a plan of up to 1,000 rows. Making the view and the plan isn't timed. What was done is printed; the microseconds from
+//! the start of `group` to the end of each of the three calls go to standard error.
 
 mod big_farm;
 

@@ -1,9 +1,9 @@
 //! The events of a running desk, each timed by itself, with requests made beforehand and a seeded hasher.
 //!
-//! First the journal of a small desk is filled, whose memory is what the process has more than before: later there would be memory
-//! that others gave back. Then another desk's table grows from empty to so many pins; it serves requests whose pins it has, alone and
-//! with the three events round each; then as many requests with new keys, each of which purges the oldest pin. Then come sheets of
-//! 1,000 kinds at 128 servers, a server is drained and the plan installed that moves its pins, and in the end all pins expire at once.
+//! First the journal of a small desk is filled. Its memory is what the process has more than before; later there would be memory that
+//! others gave back. Then another desk's table grows from empty to so many pins. It serves requests whose pins it has, alone and with
+//! the three events round each; then as many requests with new keys, each of which purges the oldest pin. Then come sheets of 1,000
+//! kinds at 128 servers. A server is drained and the plan installed that moves its pins, and in the end all pins expire at once.
 
 use crate::farm::{EXPIRE, backend, drawn_requests, requests};
 use crate::{Times, grown, resident, tell_clock};
@@ -65,7 +65,7 @@ impl Answers {
     }
 }
 
-/// Times the events of a desk of so many pins, and tells the memory of so many entries of a journal.
+/// Times the events of a desk of so many pins, and reports the memory of so many entries of a journal.
 pub fn measure_desk<R: Runtime + RandomSource>(
     rt: &R,
     alloc: Global,
@@ -79,7 +79,7 @@ pub fn measure_desk<R: Runtime + RandomSource>(
     use_desk(rt, alloc, &mut desk, pins)
 }
 
-// A function that has a desk of its own, and many calls behind which it would end, takes the prover minutes. So most are lent one.
+// Where a function owns a desk and makes many calls after which it would end, the prover takes minutes. So most are lent one.
 fn open<S: BuildHasher + Drop>(
     alloc: Global,
     backend: &Backend,
@@ -241,7 +241,7 @@ fn open_and_close<S: BuildHasher>(desk: &mut Desk<S>, reply: &Reply) -> Result<(
     Ok(())
 }
 
-/// Takes sheets, and tells how many groups and pins each has.
+/// Takes sheets, and prints how many groups and pins each has.
 fn take_sheets<S: BuildHasher, R: Runtime>(rt: &R, desk: &mut Desk<S>) -> Result<()> {
     let mut times = Times::none();
     for _ in 0..SHEETS {
@@ -348,7 +348,7 @@ fn expired(reply: &Reply) -> Result<u64> {
     }
 }
 
-/// Fills a journal with so many requests of 100 keys, and tells its memory.
+/// Fills a journal with so many requests of 100 keys, and reports its memory.
 fn fill_journal<S: BuildHasher + Drop, R: Runtime>(
     rt: &R,
     alloc: Global,
@@ -373,7 +373,7 @@ fn serve_100_keys<S: BuildHasher>(alloc: Global, desk: &mut Desk<S>, requests: u
     Ok(())
 }
 
-/// Tells of a journal of so many entries by how much the resident memory has grown since it was `before`.
+/// Reports, for a journal of so many entries, by how much the resident memory has grown since it was `before`.
 fn tell_journal<S: BuildHasher, R: Runtime>(
     rt: &R,
     desk: &Desk<S>,

@@ -1,4 +1,4 @@
-//! The measurements of a table, of a desk and of a desk that threads share, which the program `bench` takes, and what they have in
+//! The measurements of a table, of a desk and of a desk that threads share, which the program `bench` takes. Also what they have in
 //! common: how long calls take, how much memory is resident, and names of pins by number.
 //!
 //! What was done is printed, and is the same on every machine; the times go to standard error. Promised: nothing but that it is safe.

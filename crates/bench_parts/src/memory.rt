@@ -7,7 +7,7 @@ use std::rt::Files;
 /// How many bytes a page has.
 const PAGE: u64 = 4096;
 
-/// The resident memory of this program, in bytes, as Linux tells it.
+/// The resident memory of this program, in bytes, as Linux reports it.
 pub fn resident<R: Files + Alloc>(rt: &R) -> Result<u64> {
     let text = fs::read_to_string(rt, "/proc/self/statm")?;
     let word = text

@@ -33,8 +33,8 @@ pub fn names(
     Ok(names)
 }
 
-/// A set of servers with which all names have one hash under the hasher of fixed seed: the set is hashed last, as one number, of whose
-/// upper half that hasher multiplies the difference from its multiplier, and that is none here.
+/// A set of servers with which all names have one hash under the hasher of fixed seed. The set is hashed last, as one number. That
+/// hasher multiplies by the difference of the number's upper half from its multiplier, and here there is no difference.
 pub fn set_of_one_hash() -> ServerSet {
     let mut set = ServerSet::empty();
     for bit in 0..64u8 {

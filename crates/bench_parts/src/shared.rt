@@ -1,8 +1,8 @@
-//! One desk that many threads use: how many whole requests a second, how long a call takes that waits for nobody, and how long others
-//! wait while all pins and the journal are copied, who go on calling for as long as the copies last.
+//! One desk that many threads use: how many whole requests a second, and how long a call takes that waits for no other. Also how long
+//! threads wait while all pins and the journal are copied; they go on calling for as long as the copies last.
 //!
-//! A whole request is an Expire, a Serve, an Open and a Close. Requests are made beforehand, but beside copies, and so are their pins. Alone each of the
-//! four is timed by itself; threads that call at once ask as the balancer does, for the first two together.
+//! A whole request is an Expire, a Serve, an Open and a Close. Requests and their pins are made beforehand, except beside copies.
+//! Alone each of the four is timed by itself; threads that call at once ask as the balancer does, for the first two together.
 ghost use Rattle.std.specs.Prelude.{◌≡◌};
 
 use crate::farm::{backend, request};
@@ -50,7 +50,7 @@ enum Job {
 struct Work {
     kept: u64,
     copied: usize,
-    /// How long it took until a server was told, and the copies.
+    /// How long it took until the desk gave a server, and how long the copies took.
     asks: Times,
     rows: Times,
     entries: Times,
@@ -94,7 +94,7 @@ impl Work {
         }
     }
 
-    /// Tells the times of what copied, or of what served beside copies.
+    /// Reports the times of what copied, or of what served beside copies.
     fn tell_beside_copies(&self, rt: &impl Runtime) -> Result<()> {
         if self.copied == 0 {
             return self.asks.tell(rt, "an Expire and a Serve beside copies");
@@ -136,7 +136,7 @@ fn share<B: Naming + Send + Sync, R: Runtime + Threads + Wait + Sync>(
     use_desk(rt, alloc, &desk, pins, requests)
 }
 
-// A function that has a desk or a seat of its own, and many calls behind which it would end, takes the prover minutes. So most are lent
+// Where a function owns a desk or a seat and makes many calls after which it would end, the prover takes minutes. So most are lent
 // one.
 fn use_desk<B, R>(
     rt: &R,

@@ -1,9 +1,9 @@
 //! The calls of a table of pins, each timed by itself, with names made beforehand and a seeded hasher.
 //!
-//! A table grows from empty to so many pins; then pins drawn at random are found and used, three times as many; then as many new
-//! pins are made, each of which purges the oldest; then the counts are walked over, of 1,000 kinds where there are pins enough.
-//! Memory is what the process has more than before the growth. Then a table grows by names that all have one hash under the hasher
-//! of fixed seed, which shall cost it no more than others, and last one grows under that hasher, by names that look random.
+//! A table grows from empty to so many pins. Then pins drawn at random are found and used, three times as many. Then as many new pins
+//! are made, each of which purges the oldest. Then the counts are walked over, of 1,000 kinds where there are pins enough. Memory is
+//! what the process has more than before the growth. Then a table grows by names that all have one hash under the hasher of fixed
+//! seed, which should cost it no more than others. The last one grows under that hasher, by names that look random.
 
 use crate::numbered::{hashes, set_of_one_hash};
 use crate::{Times, drawn_names, grown, names, resident, tell_clock};
@@ -20,7 +20,7 @@ use std::time::Instant;
 /// For how many calls names are made beforehand.
 const BATCH: u32 = 10_000;
 
-/// Of so many names it is told whether they have one hash.
+/// How many names are compared to see whether they have one hash.
 const NAMES: u32 = 1000;
 
 /// Of so many kinds pins are made in turn: at so many servers, and at as many costs as it takes.
@@ -51,7 +51,7 @@ fn use_table<S: BuildHasher + Drop>(
     fill_and_use(rt, alloc, &mut table, before, pins)
 }
 
-// A function that has a table of its own, and many calls behind which it would end, takes the prover minutes. So it is lent one.
+// Where a function owns a table and makes many calls after which it would end, the prover takes minutes. So it is lent one.
 fn fill_and_use<S: BuildHasher + Drop>(
     rt: &impl Runtime,
     alloc: Global,
@@ -154,7 +154,7 @@ fn make_one<S: BuildHasher + Drop>(
     }
 }
 
-/// Finds and uses three times as many pins as there are, and tells how many were there.
+/// Finds and uses three times as many pins as there are, and prints how many were there.
 fn touch<S: BuildHasher + Drop>(
     rt: &impl Runtime,
     alloc: Global,
@@ -202,7 +202,7 @@ fn touch_one<S: BuildHasher + Drop>(table: &mut Table<S>, name: &PinId) -> bool 
     true
 }
 
-/// Tells how many kinds there are, and how long it takes to walk over their counts and to list them.
+/// Reports how many kinds there are, and how long it takes to walk over their counts and to list them.
 fn count<S: BuildHasher + Drop>(rt: &impl Runtime, alloc: Global, table: &Table<S>) -> Result<()> {
     let start = Instant::now(rt)?;
     let (kinds, pins) = walked(table);
@@ -225,7 +225,8 @@ fn walked<S: BuildHasher + Drop>(table: &Table<S>) -> (u64, u64) {
     (kinds, pins)
 }
 
-/// Grows a table by names that were chosen to have one hash under the hasher of fixed seed, and tells of some that they have.
+/// Grows a table by names that were chosen to have one hash under the hasher of fixed seed, and prints how many hashes some of them
+/// have.
 fn grow_by_one_hash<S: BuildHasher + Drop>(
     rt: &impl Runtime,
     alloc: Global,

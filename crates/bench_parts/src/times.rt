@@ -31,7 +31,7 @@ impl Times {
         Ok(())
     }
 
-    /// Tells the time of a call, on the average and at most, with the clock's share in it.
+    /// Reports the time of a call, on the average and at most, with the clock's share in it.
     pub fn tell(&self, rt: &impl Runtime, what: &str) -> Result<()> {
         let mean = self.all.checked_div(u128::from(self.calls)).unwrap_or(0);
         let longest = self.longest / 1000;
@@ -40,7 +40,7 @@ impl Times {
     }
 }
 
-/// Tells what the two looks at the clock cost that are in the time of each call.
+/// Reports what the two looks at the clock cost that are in the time of each call.
 pub fn tell_clock(rt: &impl Runtime) -> Result<()> {
     let mut times = Times::none();
     for _ in 0..100_000 {

@@ -10,7 +10,7 @@ use std::marker::Model;
 
 /// The pins and the open connections of each server.
 ///
-/// Each call but `reload` costs a few machine instructions, and none takes memory once the book is made.
+/// Each call but `reload` costs a few machine instructions, and none allocates once the book is made.
 #[derive(Debug, Drop)]
 pub struct Book {
     pins: Vec<u32>,

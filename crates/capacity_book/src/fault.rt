@@ -3,7 +3,7 @@ ghost use Rattle.capacity_book.specs.FaultNumbers.{open_number, close_number};
 
 use thiserror::Error;
 
-/// Why a connection isn't opened. The first of these that holds is the one that is told.
+/// Why a connection isn't opened. If several of these hold, the first is returned.
 #[derive(Clone, Copy, Debug, PartialEq, Eq, Hash, Error)]
 pub enum OpenFault {
     /// The server doesn't exist, in the farm or in the book, is in maintenance, or is down.

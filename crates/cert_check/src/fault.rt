@@ -2,7 +2,7 @@ ghost use Rattle.std.specs.Prelude.{◌≡◌};
 
 use thiserror::Error;
 
-/// Why a plan is refused. The first of these that holds is the one that is told.
+/// Why a plan is refused. If several of these hold, the first is returned.
 #[derive(Clone, Copy, Debug, PartialEq, Eq, Error)]
 pub enum CheckFault {
     /// The plan is made for another sheet: its servers, their capacities or its pins by kind aren't the sheet's.

@@ -6,7 +6,7 @@ ghost use Rattle.cert_check.specs.Verdict.{IsMadeFor};
 use dual_cert_plan::{Plan, PricedServer, Server, Sheet};
 use lb_types_pins::{Group, Row};
 
-/// Whether the plan has the sheet's servers and the sheet's pins by kind. One walk over the rows, which takes no memory.
+/// Whether the plan has the sheet's servers and the sheet's pins by kind. One walk over the rows, which allocates nothing.
 pub(crate) fn is_made_for(sheet: &Sheet, plan: &Plan) -> bool
     ensures { IsTrue result ↔ IsMadeFor sheet.now plan.now }
 {

@@ -13,7 +13,7 @@ use pin_set::Score;
 
 /// The verdict on the plan for the sheet: the plan's score, or the first fault that holds. Versions aren't compared.
 ///
-/// Takes no memory. Costs a look at each server for each row, and a few walks over the rows.
+/// Allocates nothing. Costs a look at each server for each row, and a few walks over the rows.
 pub fn check(sheet: &Sheet, plan: &Plan) -> Result<Score, CheckFault>
     ensures exact { result ≡ verdict sheet.now plan.now }
 

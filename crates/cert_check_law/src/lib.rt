@@ -1,5 +1,5 @@
-//! The laws behind the check of a plan, and which sheet stands for a view. Private to `cert_check`, `pin_groups` and the
-//! crates above them.
+//! The laws that the check of a plan rests on, and which sheet stands for a view. Private to `cert_check`, `pin_groups`
+//! and the crates above them.
 //!
 //! Each call does nothing: its contract is a law, which holds whatever runs. Start at `specs/Laws.antt`, then
 //! `specs/Sheets.antt`; the lemmas that upper crates cite are in `proofs/`.

@@ -18,19 +18,19 @@ pub struct Flipped {
     pub is_up: bool,
 }
 
-/// Who is told where a check makes a server go up or down, as a planner or a log.
+/// What receives a report when a check makes a server go up or down, such as a planner or a log.
 pub trait Flips<R> {
     ghost use Rattle.check_workers_loop.specs.declared.flips.Flipped.{Flipped};
 
-    /// What was told, in its order, as far as it is recorded.
+    /// What was reported, in its order, as far as it is recorded.
     ghost told: { Self → Option (List Flipped) };
 
-    /// Is told of a flip. The next check waits for this to return.
+    /// Receives the report of a flip. The next check waits for this to return.
     fn tell(&mut self, rt: &R, flip: Flipped)
         ensures told { Grows (told self.old) (told self.new) (flip ∷ []) };
 }
 
-/// Tells of the flip that the round made, if it made one.
+/// Reports the flip that the round made, if it made one.
 pub(crate) fn tell_flip<R, F: Flips<R>>(rt: &R, flips: &mut F, outcome: &Outcome)
     ensures { Grows (F.told flips.old) (F.told flips.new) (option_to_list (flip_of outcome.now)) }
 {
@@ -67,8 +67,8 @@ fn flip_filed(server: ServerId, filed: Result<Filed, Refused>) -> Option<Flipped
     }
 }
 
-/// The line that says of this server of this backend that it went up or down, as `Server web/s1 is DOWN`, with its newline. The error is
-/// want of memory.
+/// The line that reports this server of this backend as up or down, such as `Server web/s1 is DOWN`, with its newline. The only error
+/// is out of memory.
 pub fn flip_line(
     alloc: Global,
     backend: &[u8],

@@ -13,8 +13,8 @@ use std::time::Duration;
 
 /// Checks the servers as their time comes, until the stop channel closes or gives anything. With no check it returns at once.
 ///
-/// A stop is seen at once where no check is due, and else behind the probe that is made just then. A backend that refuses a result loses
-/// it, and the server is checked again in time.
+/// A stop is seen at once where no check is due, and else after the probe that is being made. A backend that refuses a result loses
+/// it, and the server is checked again when next due.
 pub fn check_until_stopped<R: Wait + time::Clock, P: Probe, K: Clock<R>, Q: Port<R>, F: Flips<R>>(
     rt: &R,
     probe: &mut P,
@@ -42,7 +42,7 @@ pub fn check_until_stopped<R: Wait + time::Clock, P: Probe, K: Clock<R>, Q: Port
     }
 }
 
-/// Makes a round, and tells of the flip that it made.
+/// Makes a round, and reports the flip that it made.
 fn check_once<R, P: Probe, K: Clock<R>, Q: Port<R>, F: Flips<R>>(
     rt: &R,
     probe: &mut P,

@@ -8,8 +8,8 @@ use crate::judge::{MOST_BYTES, Verdict, judge};
 use check_workers_rule::CheckRule;
 use http_relay_wire::{Wire, WireFault, write_all};
 
-/// Whether the server behind a wire that was just connected is well. It takes no memory: the response's head is read into
-/// 16384 bytes of the stack, and each read costs one walk over what has come.
+/// Whether the server at the other end of a wire that was just connected is well. It allocates nothing: the response's head
+/// is read into 16384 bytes of the stack, and each read costs one walk over what has come.
 pub fn probe<W: Wire>(rule: &CheckRule, wire: &mut W) -> bool
     // A bare connect is a success, and nothing is sent or read.
     ensures connect { IfNone rule.now (result ≡ true) }
@@ -38,7 +38,7 @@ fn probe_by<W: Wire>(line: &[u8], fields: &[u8], wire: &mut W) -> bool
     }
 }
 
-/// Writes the line and behind it the fields; at a fault a beginning of both together went out.
+/// Writes the line and then the fields; at a fault a beginning of both together went out.
 fn send<W: Wire>(line: &[u8], fields: &[u8], wire: &mut W) -> Result<(), WireFault>
     ensures ok { OnOk result (W.written wire.new ≡ append_known (W.written wire.old) (line.now ++ fields.now)) }
     ensures err { OnErr result (AppendsBeginning (W.written wire.old) (W.written wire.new) (line.now ++ fields.now)) }

@@ -14,7 +14,7 @@ pub struct ScriptedProbe<'a> {
 }
 
 impl<'a> ScriptedProbe<'a> {
-    /// A probe that answers so, in turn. Servers behind the last answer are not well.
+    /// A probe that answers so, in turn. Servers after the last answer are not well.
     pub fn new(alloc: Global, answers: &'a [bool]) -> Self
         ensures { ⟦<ScriptedProbe<'a> as Probe>⟧.probes result ≡ Some [] }
     {

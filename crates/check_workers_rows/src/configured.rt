@@ -68,7 +68,8 @@ fn is_sending(rule: &CheckRule) -> bool {
     rule.request().is_some()
 }
 
-// Servers with `check` are checked every `inter`, and probed within `timeout check` or else `inter`; where both are 0 nothing limits it.
+// Servers with `check` are checked every `inter`, and probed within `timeout check` or else `inter`; where both are 0 nothing limits
+// it.
 #[test]
 fn checks_are_as_configured(rt: HostRuntime) -> Result<(), Fail> {
     let config = config(&rt, rt.alloc());

@@ -14,7 +14,7 @@ use std::thread;
 use std::thread::join;
 use std::time::{Duration, Instant};
 
-/// Counts what it is told, and stops the loop once that is as much as it wants.
+/// Counts what is reported to it, and stops the loop once that is as much as it wants.
 #[derive(Drop)]
 struct Stopper {
     to: Option<Sender<()>>,
@@ -64,14 +64,15 @@ const WENT_UP: Filed = Filed::Checked(Checked::Took(Flip::WentUp));
 
 const WENT_DOWN: Filed = Filed::Checked(Checked::Took(Flip::WentDown));
 
-// What each result does, the one that is refused, the flips after which it stops, the entries then, and how many flips were up and down.
+// What each result does, the one that is refused, the flips after which it stops, the entries then, and how many flips were up and
+// down.
 const LOOPS: &[(Filed, Option<(u64, Refused)>, u64, usize, (u64, u64))] = &[
     (WENT_UP, None, 1, 1, (1, 0)),
     (WENT_DOWN, None, 6, 6, (0, 6)),
     (WENT_UP, Some((2, Refused::Worn)), 5, 5, (5, 0)),
 ];
 
-// Each result that makes a server go up or down is told, one that is refused is not, and the loop goes on until it is stopped.
+// Each result that makes a server go up or down is reported, one that is refused is not, and the loop goes on until it is stopped.
 #[test]
 fn flips_are_told_until_a_stop(rt: HostRuntime) -> Result<(), Fail> {
     for (filed, refusing, wanted, entries, flips) in LOOPS {

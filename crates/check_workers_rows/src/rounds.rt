@@ -116,7 +116,7 @@ fn a_refused_result_is_dropped(rt: HostRuntime) {
     assert!(rt; port.entries().len() == 8 && port.refusals() == 1);
 }
 
-// Without a check nothing is done; the probes that are behind the last answer fail.
+// Without a check nothing is done; the probes after the last answer fail.
 #[test]
 fn without_checks_nothing_is_probed(rt: HostRuntime) -> Result<(), Fail> {
     let script = script(None);

@@ -6,8 +6,8 @@ use std::alloc::{AllocError, Global};
 use std::marker::Model;
 use std::sync::Arc;
 
-/// The request line of checks, as an `option httpchk` has it. It may be about as long as the whole configuration, so it is made once,
-/// and those who need it share it.
+/// The request line of checks, as an `option httpchk` gives it. It may be about as long as the whole configuration, so it is made
+/// once and shared.
 #[derive(Debug, Drop)]
 pub struct RequestLine {
     text: Arc<Vec<u8>>,
@@ -24,7 +24,7 @@ impl Model for RequestLine {
 }
 
 impl RequestLine {
-    /// The line of this method, URI and version. The error is want of memory.
+    /// The line of this method, URI and version. The only error is out of memory.
     pub fn new(
         alloc: Global,
         method: &[u8],
@@ -47,7 +47,7 @@ impl RequestLine {
         })
     }
 
-    /// The same line once more, without a copy of its bytes. The error is want of memory.
+    /// The same line once more, without a copy of its bytes. The only error is out of memory.
     pub fn share(&self) -> Result<Self, AllocError>
         ensures { IfOk result (λ line. line ≡ self.now) }
     {

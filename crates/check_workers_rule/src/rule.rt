@@ -21,7 +21,7 @@ struct OwnRequest {
     fields: Vec<u8>,
 }
 
-/// The bytes that a check sends, in two parts, one behind the other.
+/// The bytes that a check sends, in two parts, one after the other.
 #[derive(Clone, Copy, Debug, PartialEq, Eq)]
 pub struct CheckRequest<'a> {
     /// The request line, with its CR LF.
@@ -48,8 +48,8 @@ impl CheckRule {
         CheckRule { request: None }
     }
 
-    /// A check that sends a request under this line to the server at `address` and `port`. The line isn't copied. The error is want
-    /// of memory.
+    /// A check that sends a request under this line to the server at `address` and `port`. The line isn't copied. The only error
+    /// is out of memory.
     pub fn http(
         alloc: Global,
         line: &RequestLine,

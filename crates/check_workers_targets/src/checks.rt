@@ -9,8 +9,8 @@ use lb_config_values::ServerConfig;
 use lb_types::{Moment, ServerId};
 use std::alloc::{AllocError, Global};
 
-/// When the backend's servers are checked: those with `check`, in their order, each for the first time at once and then every `inter`.
-/// The error is want of memory.
+/// When the backend's servers are checked: those with `check`, in their order, each for the first time at once and then every
+/// `inter`. The only error is out of memory.
 pub fn checks_of(alloc: Global, backend: &BackendConfig) -> Result<Vec<Check>, AllocError>
     ensures { IfOk result (λ checks. checks.items ≡ checks_of backend.now) }
 {
@@ -30,7 +30,7 @@ fn checks_among(alloc: Global, servers: &[ServerConfig]) -> Result<Vec<Check>, A
     Ok(checks)
 }
 
-/// Puts the server's check behind the others, if it is checked.
+/// Appends the server's check, if it is checked.
 fn push_check(checks: &mut Vec<Check>, place: u8, server: &ServerConfig) -> Result<(), AllocError>
     requires { place < MAX_SERVERS }
     ensures { OnOk result (checks.new.items ≡ checks.old.items ++ option_to_list (check_at place server.now)) }

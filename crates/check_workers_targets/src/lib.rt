@@ -1,7 +1,7 @@
-//! What the configuration says of checks, as those who make them need it.
+//! What the configuration says of checks, as the code that makes them needs it.
 //!
-//! Promised: `checks_of` gives just the servers with `check`, each with its interval, and `targets_of` where, how and how long each of
-//! them is probed, as `specs/Targets.antt` says. Start there.
+//! Promised: `checks_of` gives just the servers with `check`, each with its interval. `targets_of` gives where, how and how long each
+//! of them is probed, as `specs/Targets.antt` says. Start there.
 #![tactic(auto)]
 
 mod checks;

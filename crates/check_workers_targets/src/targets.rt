@@ -8,7 +8,7 @@ use lb_config_values::ServerConfig;
 use std::alloc::{AllocError, Global};
 
 /// How each of the backend's servers is probed, in their order: at its address, by its request, and within `timeout check`, or else
-/// within `inter`. There is no target for one that isn't checked. The error is want of memory.
+/// within `inter`. There is no target for one that isn't checked. The only error is out of memory.
 pub fn targets_of(
     alloc: Global,
     backend: &BackendConfig,

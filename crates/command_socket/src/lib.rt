@@ -1,8 +1,8 @@
 //! The commands of operators, as the command socket and scripts take them.
 //!
-//! Promised: `read_commands` gives exactly the commands and faults of the definition, in order; `look_up` gives the places of the
+//! Promised: `read_commands` gives exactly the commands and faults of the definition, in order. `look_up` gives the places of the
 //! backend and the server that a command names, and `resolve` the change of a command that changes a server, as `specs/Resolved`
-//! defines them: a backend that is none is told first, then a server that is none. How words are read stands in the crate
+//! defines them. A backend that doesn't exist is reported first, then a server that doesn't exist. How words are read is in the crate
 //! `command_socket_words`, which is private to this one and its tests. Start at `read_commands`, and at `look_up` for the names.
 #![tactic(auto)]
 

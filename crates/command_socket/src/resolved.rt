@@ -5,12 +5,12 @@ use command_socket_words::{Command, CommandFault, Shown};
 use lb_config::{Config, FindFault};
 use server_state::Change;
 
-/// A command of which the names are looked up. Backends are told by their places among the configuration's backends.
+/// A command whose names are looked up. Backends are given by their places among the configuration's backends.
 #[derive(Clone, Copy, Debug, PartialEq, Eq)]
 pub enum Resolved {
     /// Changes a server of the backend.
     Change(usize, Change),
-    /// Plans the backend's pins anew, and moves them.
+    /// Plans the backend's pins again, and moves them.
     Plan(usize),
     /// Prints what is asked of the backend.
     Show(Shown, usize),
@@ -26,9 +26,9 @@ pub fn is_change(command: &Command) -> bool
 }
 
 /// What a command that changes a server changes: the server has its place in its backend. Where the configuration has no such
-/// backend, the fault is `NoBackend`, else `NoSuchServer` where the backend has no such server. Takes no memory.
+/// backend, the fault is `NoBackend`, else `NoSuchServer` where the backend has no such server. Allocates nothing.
 ///
-/// `look_up` is for all commands, and tells the backend too.
+/// `look_up` is for all commands, and gives the backend too.
 #[tactic(auto, unfolding(crate::specs::Resolved::change_in))]
 pub fn resolve(config: &Config, command: &Command) -> Result<Change, CommandFault>
     requires { is_change command.now ≡ true }
@@ -47,7 +47,7 @@ pub fn resolve(config: &Config, command: &Command) -> Result<Change, CommandFaul
 }
 
 /// The command with its backend and its server. Where it names none that the configuration has, the fault is `NoBackend`, or
-/// `NoSuchServer` in a backend that it has. Takes no memory.
+/// `NoSuchServer` in a backend that it has. Allocates nothing.
 #[tactic(auto, unfolding(crate::specs::Resolved::resolved))]
 pub fn look_up(config: &Config, command: &Command) -> Result<Resolved, CommandFault>
     ensures { result ≡ resolved config.now command.now }

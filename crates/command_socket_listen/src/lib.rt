@@ -1,8 +1,8 @@
 //! Where operators reach the balancer: a listener on an address or on a path of the file system, and its connections.
 //!
-//! Promised: nothing by a clause, since no clause says what the system does. Tested: who may connect to a path, that a socket which a
-//! dead program left is replaced, that one which somebody listens on and files of other kinds are left alone, that a stop is seen, and
-//! that the path is free again at the end, and that a line which comes byte by byte has 5 s in all. Start at `CommandListener`.
+//! Promised: nothing by a clause, since no clause says what the system does. Tested: which users may connect to a path; that a socket
+//! left by a dead program is replaced; that one which is listened on and files of other kinds are left alone; that a stop is seen,
+//! and the path is free again at the end; and that a line which comes byte by byte has 5 s in all. Start at `CommandListener`.
 #![tactic(auto)]
 
 mod line;

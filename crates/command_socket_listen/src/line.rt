@@ -50,7 +50,7 @@ impl<'a, K: Clock> Write for LineStream<'a, K> {
     }
 }
 
-// A deadline that has passed, as the system tells a wait that was too long.
+// A deadline that has passed, as the system reports a wait that was too long.
 fn error_of(_passed: WireFault) -> io::Error {
     ErrorKind::TimedOut.into()
 }

@@ -16,7 +16,7 @@ use std::{fs, io};
 /// How many milliseconds one read or one write waits for an operator: the default of HAProxy's `stats timeout`.
 const LIMIT_MILLIS: u32 = 10_000;
 
-/// What operators connect to, as `stats socket` has it.
+/// What operators connect to, as `stats socket` defines it.
 #[derive(Debug, Drop)]
 pub struct CommandListener {
     place: Place,
@@ -31,9 +31,9 @@ enum Place {
 impl CommandListener {
     /// Listens there. At a path the socket can be used by its owner alone, and one that nobody listens on is replaced.
     ///
-    /// The error is the system's, where the address can't be bound. At a path it is `AddrInUse` where somebody listens there,
-    /// `AlreadyExists` where another kind of file stands there, which is left alone, and `InvalidInput` where the path isn't UTF-8 or
-    /// has more than 103 bytes.
+    /// The error is the system's, where the address can't be bound. At a path it is `AddrInUse` where somebody listens there, and
+    /// `AlreadyExists` where another kind of file stands there, which is left alone. It is `InvalidInput` where the path isn't UTF-8
+    /// or has more than 103 bytes.
     pub fn open<R: Files + Net>(
         rt: &R,
         alloc: Global,
@@ -54,8 +54,9 @@ impl CommandListener {
         Ok(CommandListener { place })
     }
 
-    /// The next operator's connection, which waits at most 10 s for each read and each write, or none once `stop` is set. A stop is seen
-    /// at most 100 ms late. An error of one accept ends nothing; after one that may last, as too many open files, it rests for 10 ms.
+    /// The next operator's connection, or none once `stop` is set. The connection waits at most 10 s for each read and each write. A
+    /// stop is seen at most 100 ms late. An error of one accept ends nothing; after one that may last, such as too many open files,
+    /// it rests for 10 ms.
     pub fn next_connection<R: Wait + Clock>(
         &self,
         rt: &R,

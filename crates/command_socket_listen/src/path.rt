@@ -23,11 +23,11 @@ enum Found {
 }
 
 /// Listens at the path, so that only the owner may connect, and an accept ends as `WouldBlock` where nobody came for 100 ms. A socket
-/// that nobody listens on is replaced. `AddrInUse`: somebody listens there. `AlreadyExists`: another kind of file stands there, and is
-/// left alone. Other errors are the system's.
+/// that nobody listens on is replaced. `AddrInUse`: somebody listens there. `AlreadyExists`: another kind of file stands there, and
+/// is left alone. Other errors are the system's.
 ///
-/// The socket is made at the path with `.new` behind it, and moved once its mode is set, so at the path it never stands under another.
-/// Both paths have to be shorter than 108 bytes.
+/// The socket is made at the path with `.new` appended, and moved once its mode is set. So it never stands at the path with another
+/// mode. Both paths have to be shorter than 108 bytes.
 pub(crate) fn listen_at<R: Files + Net>(
     rt: &R,
     alloc: Global,
@@ -71,7 +71,7 @@ fn put_in_place<R: Files>(rt: &R, beside: &str, path: &str) -> io::Result<()> {
     fs::rename(rt, beside, path)
 }
 
-/// The path with `.new` behind it. The error is want of memory.
+/// The path with `.new` appended. The only error is out of memory.
 fn beside(alloc: Global, path: &str) -> Result<String, AllocError>
     ensures { IfOk result (λ beside. string_bytes beside ≡ path.now ++ codes ".new") }
 {

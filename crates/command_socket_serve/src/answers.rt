@@ -22,7 +22,7 @@ use server_state::Change;
 use std::alloc::Global;
 use std::io::Write;
 
-/// Carries out a command, or tells its fault, and prints its answer without the empty line behind it.
+/// Carries out a command, or reports its fault, and prints its answer without the empty line after it.
 pub(crate) fn answer<R, S: Steer<R>, G: Gate<R>, T: Told, W: Write>(
     rt: &R,
     alloc: Global,
@@ -101,7 +101,8 @@ fn carry_out<R, S: Steer<R>, G: Gate<R>, T: Told, W: Write>(
     }
 }
 
-/// Asks for a change to a server of the backend at the place, tells whom it concerns where it is made, and else prints why not.
+/// Asks for a change to a server of the backend at the place. Where the change is made, `told` is notified; else the reason is
+/// printed.
 fn change<R, S: Steer<R>, T: Told, W: Write>(
     rt: &R,
     named: &NamedBackend<'_>,

@@ -16,13 +16,13 @@ use std::io::{BufRead, BufReader, BufWriter, ErrorKind, Read, Write};
 /// How many bytes are read at most: a longest line, the two bytes of its end, and none more.
 const MOST_READ: u64 = 4098;
 
-/// Answers the one line of a connection, which is ended by a line feed, by a carriage return and a line feed, or by the end of what the
-/// client sends. The caller closes the connection, and limits its reads and writes. There is a desk for each backend of the configuration,
-/// in its order.
+/// Answers the one line of a connection. It is ended by a line feed, by a carriage return and a line feed, or by the end of what the
+/// client sends. The caller closes the connection, and limits its reads and writes. There is a desk for each backend of the
+/// configuration, in its order.
 ///
-/// A line of more than 4,096 bytes is answered as one `100 UnknownCommand`; what stands behind the first 4,098 bytes is not read. A client
-/// whose connection fails before its line has ended, as by a limit, is let go without an answer, and nothing is carried out. Where there is
-/// not memory enough to read the line, `out of memory` is the answer.
+/// A line of more than 4,096 bytes is answered as one `100 UnknownCommand`; what comes after the first 4,098 bytes is not read. A
+/// client whose connection fails before its line has ended, for example at a limit, gets no answer, and nothing is carried out. Where
+/// there is not enough memory to read the line, `out of memory` is the answer.
 pub fn serve_connection<R, S: Steer<R>, G: Gate<R>, T: Told, C: Read + Write>(
     rt: &R,
     alloc: Global,
@@ -58,14 +58,14 @@ pub fn serve_connection<R, S: Steer<R>, G: Gate<R>, T: Told, C: Read + Write>(
     answered.next
 }
 
-/// Tells that there is not memory enough to read a line.
+/// Reports that there is not enough memory to read a line.
 fn refuse_line<W: Write>(out: &mut W) -> Printed {
     let mut out = Counted::new(out);
     let printed = print_refused(&mut out, Ok(()), Refused::Memory);
     print_end(&mut out, printed)
 }
 
-/// Reads the first line of a connection, with its end. It takes memory for 8,192 bytes beside the line.
+/// Reads the first line of a connection, with its end. It allocates 8,192 bytes in addition to the line.
 fn read_text<C: Read>(alloc: Global, stream: &mut C) -> io::Result<Vec<u8>>
     ensures { IfOk result (λ text. IsTextOf (C.remaining stream.old) text.items) }
 {

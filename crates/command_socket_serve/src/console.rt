@@ -6,7 +6,7 @@ use lb_config::{BackendConfig, Config};
 use lb_desk_model::BackendServer;
 use std::marker::Model;
 
-/// What operators' commands are carried out with, whoever gives them.
+/// What operators' commands are carried out with, wherever they come from.
 #[derive(Debug, Drop)]
 pub struct Console<'a, G> {
     config: &'a Config,

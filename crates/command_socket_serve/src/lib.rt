@@ -1,9 +1,9 @@
-//! What a connection to the command socket is answered: one line of operators' commands.
+//! How a connection to the command socket is answered: one line of operators' commands.
 //!
-//! Promised: `answer_line` carries out the commands of a line one after another, each as the desks stand behind those before it; what
-//! it asked of each desk and what it printed are those of `specs/Lines.antt`, whatever becomes of the writer. A change is one event at
-//! its backend's desk, and its planner is told where it was made. `serve_connection` does this for the one line of a connection. Start
-//! at `answer_line`, and at `specs/Answers.antt`.
+//! Promised: `answer_line` carries out the commands of a line one after another, each with the desks as the commands before it left
+//! them. What it asked of each desk and what it printed are those of `specs/Lines.antt`, whatever becomes of the writer. A change is
+//! one event at its backend's desk, and its planner is notified if it was made. `serve_connection` does this for the one line of a
+//! connection. Start at `answer_line`, and at `specs/Answers.antt`.
 #![tactic(auto)]
 
 mod answers;

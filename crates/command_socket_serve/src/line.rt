@@ -16,7 +16,7 @@ use lb_types_counted::Counted;
 use std::alloc::Global;
 use std::io::Write;
 
-/// Whether the program goes on behind a line.
+/// Whether the program goes on after a line.
 #[derive(Clone, Copy, Debug, PartialEq, Eq)]
 pub enum Next {
     /// It goes on.
@@ -33,13 +33,15 @@ pub struct Answered {
     pub printed: Result<(), WriteFailed>,
 }
 
-/// Carries out the commands of a line, one after another, and prints their answers: the text of each, and then an empty line. There is a
-/// desk for each backend of the configuration, in its order. The line is given without its end.
+/// Carries out the commands of a line, one after another, and prints their answers: the text of each, and then an empty line. There
+/// is a desk for each backend of the configuration, in its order. The line is given without its end.
 ///
-/// A change that is made has no text, and `told` is told of it; the fault of a command is its text. Where there is not memory enough for
-/// the line's commands, which are at most 2,048, none is carried out and `out of memory` is the one answer. A command that memory is
-/// wanting for has the same text, and those behind it are carried out all the same; so they are where a write failed. A command costs
-/// what it costs its desk, `plan` whole plannings, `show` a copy of what is shown. Nothing is flushed: give it a writer that buffers.
+/// A change that is made has no text, and is reported to `told`; the text of a command at fault is its fault. A line has at most
+/// 2,048 commands. Where there is not enough memory for them, none is carried out and `out of memory` is the one answer. A command
+/// that runs out of memory has the same text. The commands after it are still carried out, and so are those after a failed write.
+///
+/// A command costs what it costs its desk: `plan` whole plannings, `show` a copy of what is shown. Nothing is flushed: give it a
+/// writer that buffers.
 pub fn answer_line<R, S: Steer<R>, G: Gate<R>, T: Told, W: Write>(
     rt: &R,
     alloc: Global,
@@ -67,7 +69,7 @@ pub fn answer_line<R, S: Steer<R>, G: Gate<R>, T: Told, W: Write>(
     }
 }
 
-/// Whether the program goes on behind these commands.
+/// Whether the program goes on after these commands.
 fn next_behind(commands: &[Result<Command, CommandFault>]) -> Next
     ensures { result ≡ next_behind commands.now }
 {

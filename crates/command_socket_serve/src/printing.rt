@@ -1,4 +1,4 @@
-//! Printing answers one behind another: once a write failed, nothing more is printed.
+//! Printing answers one after another: once a write failed, nothing more is printed.
 ghost use Rattle.lb_answers.specs.Answers.{answer_text};
 ghost use Rattle.command_socket_serve.specs.Answers.{refused_line};
 ghost use Rattle.command_socket_serve.specs.Lines.{empty_line};

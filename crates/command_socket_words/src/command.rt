@@ -26,7 +26,7 @@ pub enum Shown {
 pub enum Command {
     /// Changes a server. Its numbers are of any size: whether they are in range is not known.
     Set(ServerName, Setting),
-    /// Plans the backend's pins anew, and moves them.
+    /// Plans the backend's pins again, and moves them.
     Plan(Name),
     /// Prints what is asked of the backend.
     Show(Shown, Name),

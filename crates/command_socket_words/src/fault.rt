@@ -1,7 +1,8 @@
 use thiserror::Error;
 
-/// Why a command was not taken. Of the first three the one that stands first in the command is told, and a missing word
-/// stands at its end; reading gives no other. The last two are told of commands that were read, in this order.
+/// Why a command was not taken. Of the first three the one that comes first in the command is reported, and a missing
+/// word counts as at its end; reading gives no other. The last two are reported for commands that were read, in this
+/// order.
 #[derive(Clone, Copy, Debug, PartialEq, Eq, Hash, Error)]
 pub enum CommandFault {
     /// A word isn't one that is due there, there is a word too many, or the line is longer than 4096 bytes.

@@ -18,7 +18,7 @@ pub fn words_say_a_command()
         → Says words command → command_of words ≡ Ok command }
 {}
 
-/// The fault that is told is the first one from the left.
+/// The fault that is reported is the first one from the left.
 pub fn the_first_fault_is_told()
     // A fault stands, whatever words follow.
     ensures stays { (words more : List Word) (fault : CommandFault) → fault ≢ MissingWord
@@ -26,17 +26,18 @@ pub fn the_first_fault_is_told()
     // A word is missing only where other words make a command of it.
     ensures missing { (words : List Word) → command_of words ≡ Err MissingWord
         → (more : List Word) × (command : Command) × (command_of (words ++ more) ≡ Ok command) }
-    // Behind a whole command each word is one too many.
+    // After a whole command each word is one too many.
     ensures ends { (words : List Word) (word : Word) (more : List Word) (command : Command)
         → command_of words ≡ Ok command → command_of (words ++ word ∷ more) ≡ Err UnknownCommand }
-    // A number is told as bad only where that word alone is wrong: with 0 in its place the words up to it are a command.
+    // A number is reported as bad only where that word alone is wrong: with 0 in its place the words up to it are a
+    // command.
     ensures number { (words : List Word) → command_of words ≡ Err BadNumber
         → (front more : List Word) × (bad : Word) × (command : Command)
         × (words ≡ front ++ bad ∷ more) × (number_in bad ≡ Err BadNumber)
         × (command_of (front ++ codes "0" ∷ []) ≡ Ok command) }
 {}
 
-/// Commands whose words stand in a line, with spaces and semicolons between them, are each read by their words.
+/// Commands whose words are in a line, with spaces and semicolons between them, are each read by their words.
 pub fn a_line_says_its_commands()
     ensures { (commands : List (List Word)) → list_all are_words commands ≡ true
         → length (line_of commands) ≤ LONGEST_LINE

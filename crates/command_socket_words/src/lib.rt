@@ -1,9 +1,8 @@
 //! The words of operators' command lines, as the command socket and scripts take them.
 //!
-//! Promised of `read_commands`: a line gives exactly the commands and faults that `specs/Commands.antt` says, in order,
-//! so long as memory is there. A command is read exactly where its words are those of the table in
-//! `specs/Meanings.antt`, and of a command's faults the first from the left is told (`laws`). Start at `read_commands`. Private to
-//! `command_socket`, which re-exports it.
+//! Promised of `read_commands`: a line gives exactly the commands and faults that `specs/Commands.antt` says, in order, as long as
+//! there is memory. A command is read exactly where its words are those of the table in `specs/Meanings.antt`. Of a command's faults
+//! the first from the left is reported (`laws`). Start at `read_commands`. Private to `command_socket`, which re-exports it.
 #![tactic(auto)]
 
 mod command;

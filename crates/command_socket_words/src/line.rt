@@ -13,13 +13,14 @@ use std::alloc::{AllocError, Global};
 /// How many bytes a line may have, its end not counted.
 const LONGEST_LINE: usize = 4096;
 
-/// The commands of a line, which is given without its end, and in place of each command that can't be read its fault.
+/// The commands of a line, which is given without its end. For each command that can't be read it gives the fault
+/// instead.
 ///
-/// Commands stand between semicolons, words between spaces, any number of them; a tab is part of a word. What has no
-/// word is passed over. A line of more than 4096 bytes is one `UnknownCommand`.
+/// Commands are separated by semicolons, words by any number of spaces; a tab is part of a word. What has no word is
+/// passed over. A line of more than 4096 bytes is one `UnknownCommand`.
 ///
 /// One walk over the line. The memory is that of one list of what it gives: at most 2048 commands and faults, for no more
-/// fit in a line. The error is want of memory.
+/// fit in a line. The only error is out of memory.
 pub fn read_commands(
     alloc: Global,
     line: &[u8],
@@ -78,7 +79,7 @@ fn read_command(first: &[u8], words: &mut Words) -> Result<Command, CommandFault
     Err(CommandFault::UnknownCommand)
 }
 
-/// What stands behind `plan`.
+/// What follows `plan`.
 #[tactic(auto, unfolding(crate::specs::Commands::plan_of, crate::specs::Words::behind, crate::specs::Words::last))]
 fn read_plan(words: &mut Words) -> Result<Command, CommandFault>
     ensures { result ≡ plan_of words.old }
@@ -91,7 +92,7 @@ fn read_plan(words: &mut Words) -> Result<Command, CommandFault>
     Ok(Command::Plan(backend))
 }
 
-/// What stands behind `show`.
+/// What follows `show`.
 #[tactic(auto, unfolding(crate::specs::Commands::show_of, crate::specs::Words::last))]
 fn read_show(words: &mut Words) -> Result<Command, CommandFault>
     ensures { result ≡ show_of words.old }

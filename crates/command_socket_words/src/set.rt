@@ -7,7 +7,7 @@ use crate::words::{Words, is};
 use crate::{Command, CommandFault, ServerName};
 use server_state::{AdminState, Setting};
 
-/// What stands behind `enable` or `disable`.
+/// What follows `enable` or `disable`.
 #[tactic(auto, unfolding(crate::specs::Commands::switch_of, crate::specs::Words::behind, crate::specs::Words::last))]
 pub(crate) fn read_switch(state: AdminState, words: &mut Words) -> Result<Command, CommandFault>
     ensures { result ≡ switch_of state words.old }
@@ -42,7 +42,7 @@ fn read_server_numbered(words: &mut Words) -> Result<(ServerName, u64), CommandF
     read_numbered(words)
 }
 
-/// What stands behind `set server`.
+/// What follows `set server`.
 #[tactic(auto, unfolding(crate::specs::Commands::set_server_of))]
 fn read_set_server(words: &mut Words) -> Result<Command, CommandFault>
     ensures { result ≡ set_server_of words.old }
@@ -52,7 +52,7 @@ fn read_set_server(words: &mut Words) -> Result<Command, CommandFault>
     Ok(Command::Set(server, setting))
 }
 
-/// What stands behind `set`.
+/// What follows `set`.
 #[tactic(auto, unfolding(crate::specs::Commands::set_of))]
 pub(crate) fn read_set(words: &mut Words) -> Result<Command, CommandFault>
     ensures { result ≡ set_of words.old }

@@ -46,7 +46,7 @@ fn read_weight(word: &[u8]) -> Result<Setting, CommandFault>
     Ok(Setting::Weight(weight))
 }
 
-/// What stands behind `set server b/s`.
+/// What follows `set server b/s`.
 #[tactic(auto, unfolding(crate::specs::Settings::setting_of, crate::specs::Words::last))]
 pub(crate) fn read_setting(words: &mut Words) -> Result<Setting, CommandFault>
     ensures { result ≡ setting_of words.old }

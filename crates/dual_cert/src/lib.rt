@@ -1,11 +1,11 @@
 //! Texts of plans and of sheets, both ways.
 //!
 //! Promised: each plan and each sheet has one text. `read_plan` and `read_sheet` give what a text spells, or the text's
-//! first fault; `write_plan` and `write_sheet` write it to a `Counted` writer, or else a write failed and a beginning of
+//! first fault. `write_plan` and `write_sheet` write it to a `Counted` writer, or else a write failed and a beginning of
 //! the text went out.
 //!
-//! This crate re-exports, for the crates above, what stands in four: `dual_cert_text` and `dual_cert_sheet` read,
-//! `dual_cert_write` and `dual_cert_sheet_write` write. Start at `read_plan`.
+//! This crate re-exports four for the crates above: `dual_cert_text` and `dual_cert_sheet` read, `dual_cert_write` and
+//! `dual_cert_sheet_write` write. Start at `read_plan`.
 #![tactic(auto)]
 
 pub use dual_cert_plan::{Plan, PricedServer, Server, Sheet};

@@ -37,7 +37,7 @@ impl Plan {
     ghost use Rattle.dual_cert_plan.specs.Plans.{PlanParts, IsPlan, plan_of_parts, own_sheet, pins_in_groups, pins_in_rows};
     ghost use Rattle.lb_types_pins.specs.declared.kind.PinKind.{PinKind};
 
-    /// The plan of these parts, which takes no memory. `version` is that of the sheet that was planned, at most 2^63.
+    /// The plan of these parts, which allocates nothing. `version` is that of the sheet that was planned, at most 2^63.
     pub fn new(version: u64, servers: Vec<PricedServer>, rows: Vec<Row>) -> Self
         requires { IsPlan (plan_of_parts version servers.items rows.items) }
         ensures { result ≡ plan_of_parts version servers.items rows.items }

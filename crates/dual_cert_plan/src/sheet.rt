@@ -32,7 +32,7 @@ impl Sheet {
     ghost use Rattle.std.specs.Prelude.{◌≡◌};
     ghost use Rattle.dual_cert_plan.specs.Sheets.{SheetParts, IsSheet, sheet_of_parts};
 
-    /// The sheet of these parts, which takes no memory. `version` is the table's version, at most 2^63.
+    /// The sheet of these parts, which allocates nothing. `version` is the table's version, at most 2^63.
     pub fn new(version: u64, servers: Vec<Server>, groups: Vec<Group>) -> Self
         requires { IsSheet (sheet_of_parts version servers.items groups.items) }
         ensures { result ≡ sheet_of_parts version servers.items groups.items }

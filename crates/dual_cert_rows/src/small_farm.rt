@@ -267,7 +267,7 @@ fn add_server(
     text.push_str(&line?)
 }
 
-/// Adds a row for the pins of each key, which are told apart here as in a plan: those that are equal stand together.
+/// Adds a row for the pins of each key, which are distinguished here as in a plan: equal pins stand together.
 fn add_rows(
     alloc: Global,
     keys: &[u32],

@@ -1,8 +1,10 @@
 //! Brute force: the check of a plan against the definition of best, on small views.
 //!
-//! What makes no difference to a sheet is left out of the enumerations, and no other case: the order of the pins (the kinds
-//! rise), the order of the servers (the capacities rise, and the servers that aren't usable come last), two wishes of a pin
-//! with the same permitted servers, and capacities above the number of pins.
+//! The enumerations leave out what makes no difference to a sheet, and no other case:
+//! - the order of the pins (the kinds rise);
+//! - the order of the servers (the capacities rise, and the servers that aren't usable come last);
+//! - two wishes of a pin with the same permitted servers;
+//! - capacities above the number of pins.
 //!
 //! Larger views, each assignment at prices that show the best one, are tried by `small_farms`, which `bench` runs.
 
@@ -155,8 +157,8 @@ impl Case<'_> {
         Ok(())
     }
 
-    /// At prices that show one best assignment, the check accepts the plans of the best ones alone, and these are spread over the
-    /// pins as assignments with the same score.
+    /// At prices that show one best assignment, the check accepts the plans of the best ones alone. These are spread over the pins as
+    /// assignments with the same score.
     fn try_spread(self, rt: &impl Abort, alloc: Global) -> Result<(), Fail> {
         let (best, first) = self.best(alloc)?;
         let spots = self.spots(alloc, first)?;
@@ -246,7 +248,7 @@ fn pins_of(alloc: Global, kinds: &[SmallPin], chosen: &[u8]) -> Result<Vec<Small
     Ok(pins)
 }
 
-/// Tries all farms of so many pins whose servers have these capacities, at all prices, and tells how many there are.
+/// Tries all farms of so many pins whose servers have these capacities, at all prices, and returns how many there are.
 fn try_pins(
     rt: &impl Abort,
     alloc: Global,
@@ -275,7 +277,7 @@ fn try_pins(
     Ok(tried)
 }
 
-/// Tries all farms of so many servers and pins, at all prices, and tells how many there are.
+/// Tries all farms of so many servers and pins, at all prices, and returns how many there are.
 fn try_farms(rt: &impl Abort, alloc: Global, servers: usize, pins: usize) -> Result<u64, Fail> {
     let base = (pins as u64).saturating_add(2);
     let mut tried = 0u64;

@@ -1,4 +1,4 @@
-//! Texts of plans and sheets, as they are written. What is found of them stands in `tests/verify/` and `tests/plan/`.
+//! Texts of plans and sheets, as they are written. What is found of them is in `tests/verify/` and `tests/plan/`.
 
 use std::alloc::{AllocError, Global};
 
@@ -99,8 +99,8 @@ pub(crate) const SHEETS: &[&str] = &[
     "stickysheet 2\nversion 7\nserver a off\nserver b cap 1\nserver c cap 4\ngroup 1 a b 3\ngroup 2 b b,c 1\nend\n",
 ];
 
-/// Texts of many servers, which are called `s1`, `s2` and so on: what stands before them, how many there are, the usage of
-/// each, and what stands behind them.
+/// Texts of many servers, which are called `s1`, `s2` and so on: what comes before them, how many there are, the usage of
+/// each, and what comes after them.
 pub(crate) const OF_MANY_SERVERS: &[(&str, u32, &str, &str)] = &[
     // The set of the 64th server stands before that of the 65th, and both before the set of the two.
     (

@@ -64,8 +64,8 @@ fn write_to(document: Document<'_>, out: &mut Counted<Faulty<'_>>) -> Result<(),
     }
 }
 
-/// Writes the document of the text to this writer: as a whole and without a failure, or a beginning of it with one failure, and
-/// then tells how many bytes that has.
+/// Writes the document of the text to this writer: as a whole and without a failure, or a beginning of it with one failure. It
+/// returns how many bytes that has.
 fn bytes_taken(
     rt: &impl Abort,
     document: Document<'_>,
@@ -89,7 +89,7 @@ fn bytes_taken(
     }
 }
 
-/// Writes the document of the text to writers that give up at each write in turn, and tells how many writes the whole text took.
+/// Writes the document of the text to writers that give up at each write in turn, and returns how many writes the whole text took.
 fn writes_needed(
     rt: &impl Abort,
     document: Document<'_>,

@@ -18,7 +18,7 @@ pub(crate) struct GroupWords {
     pub(crate) cost: u64,
 }
 
-/// The words behind `group`.
+/// The words after `group`.
 #[tactic(auto, unfolding(crate::specs::GroupLines::group_words_of))]
 pub(crate) fn read_group_words(
     has_costs: bool,

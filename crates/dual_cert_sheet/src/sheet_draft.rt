@@ -129,7 +129,7 @@ fn servers_of(alloc: Global, servers: &[PricedServer]) -> Result<Vec<Server>, Al
     servers.iter().map(|priced| priced.server).collect(alloc)
 }
 
-/// The server that line `number` declares behind these servers. A sheet has no prices.
+/// The server that line `number` declares after these servers. A sheet has no prices.
 fn read_free_server(
     number: u64,
     servers: &[PricedServer],
@@ -141,7 +141,7 @@ fn read_free_server(
     read_server(number, false, servers, words)
 }
 
-/// The group that a line says, behind groups of `count` pins.
+/// The group that a line says, after groups of `count` pins.
 #[tactic(auto, unfolding(crate::specs::SheetTexts::next_group))]
 fn next_group(groups: &[Group], count: u64, said: &GroupWords) -> Result<Group, TextFault>
     requires { count ≤ MAX_PINS }
@@ -185,7 +185,7 @@ fn or_needs_costs(before: bool, group: &Group) -> bool
     before || group.kind.cost != 1
 }
 
-/// Whether the group stands strictly behind the last of the groups.
+/// Whether the group comes strictly after the last of the groups.
 fn comes_next(groups: &[Group], group: &Group) -> bool
     ensures { result ≡ comes_next groups.now group.now }
 {

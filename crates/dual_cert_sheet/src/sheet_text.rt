@@ -20,12 +20,12 @@ use std::alloc::Global;
 
 /// The sheet that the text spells, each byte of it.
 ///
-/// A text of a sheet is its one spelling: `stickysheet 1`, `version V` (at most 2^63), a line for each server
-/// (`server NAME off` or `server NAME cap C`), a line for each group (`group COUNT PLACE SET`, in the sheet's order, with
-/// `-` for no server), and `end`. It begins with `stickysheet 2` where some group's cost isn't 1, and then each group has
-/// its cost as its last word. Any other text has a first fault.
+/// A sheet has one spelling: `stickysheet 1`, `version V` (at most 2^63), a line for each server (`server NAME off` or
+/// `server NAME cap C`), a line for each group (`group COUNT PLACE SET`, in the sheet's order, with `-` for no server),
+/// and `end`. Where some group's cost isn't 1, it begins with `stickysheet 2` and each group's last word is its cost. Any
+/// other text has a first fault.
 ///
-/// One walk over the text. Each name of a set is looked for from the one before it on, so a canonical set costs one walk
+/// One walk over the text. Each name of a set is looked for from the one before it on. So a canonical set costs one walk
 /// over the servers, at most 128, and each place another. The memory is that of the groups, some 50 bytes each, and up to
 /// three times as much while their list grows.
 pub fn read_sheet(alloc: Global, text: &[u8]) -> Result<Sheet, ReadError>
@@ -40,7 +40,7 @@ pub fn read_sheet(alloc: Global, text: &[u8]) -> Result<Sheet, ReadError>
     read_whole(alloc, text)
 }
 
-/// No text of a sheet begins another, so a text that stands in front of other lines ends where it ends.
+/// No text of a sheet begins another, so a text that has other lines after it ends where it ends.
 pub fn one_text()
     ensures { (a b : SheetParts) (rest : List ℕ) → IsSheet a → IsSheet b
         → sheet_spelling b ≡ sheet_spelling a ++ rest → (a ≡ b) × (rest ≡ []) }
@@ -82,7 +82,7 @@ fn read_draft(alloc: Global, text: &[u8]) -> Result<SheetDraft, ReadError>
     read_body(draft, heading.rest)
 }
 
-/// The lines from the third on, behind the heading.
+/// The lines from the third on, after the heading.
 fn read_body(mut draft: SheetDraft, text: &[u8]) -> Result<SheetDraft, ReadError>
     ensures { Gives (λ d. d) result (body_at sheet_format 3 draft (parts 10 text.now)) }
 {
@@ -99,7 +99,7 @@ fn read_body(mut draft: SheetDraft, text: &[u8]) -> Result<SheetDraft, ReadError
     Err(ReadError::Fault(TextFault::Truncated))
 }
 
-/// The draft, where the text may end behind line `number`, which is `end`.
+/// The draft, where the text may end after line `number`, which is `end`.
 #[tactic(auto, unfolding(dual_cert_text::specs::Texts::end_at, crate::specs::SheetTexts::sheet_format))]
 fn end(draft: SheetDraft, number: u64, rest: &[u8]) -> Result<SheetDraft, ReadError>
     requires { number + 1 < 2 ^ 64 }

@@ -18,7 +18,7 @@ use std::io::Write;
 
 /// Writes the sheet's text, each byte of its spelling: of version 1 where each group's cost is 1, else of version 2.
 ///
-/// It takes no memory, and makes a few writes for each word: give it a writer that buffers. Where it fails, the writer's
+/// It allocates nothing, and makes a few writes for each word: give it a writer that buffers. Where it fails, the writer's
 /// count of failures rose and a beginning of the text went out. A short write is gone on with, and one that a signal
 /// interrupted is tried again. Nothing is flushed.
 ///

@@ -4,8 +4,8 @@ ghost use Rattle.std.specs.String.{string_bytes};
 use std::alloc::{AllocError, AllocFailed, Global};
 use thiserror::Error;
 
-/// Why a text is no plan, or no sheet. Of several faults the first one in the text is told, and in one line `BadLine`
-/// before `TooLarge` before `NotCanonical`.
+/// Why a text is no plan, or no sheet. Of several faults the first one in the text is returned, and in one line
+/// `BadLine` before `TooLarge` before `NotCanonical`.
 #[derive(Clone, Copy, Debug, PartialEq, Eq, Error)]
 pub enum TextFault {
     /// The line of this number, counted from 1, is not of the form due there.

@@ -14,11 +14,11 @@ pub struct Heading<'a> {
     pub is_second: bool,
     /// The version of the table.
     pub version: u64,
-    /// The text behind the two lines.
+    /// The text after the two lines.
     pub rest: &'a [u8],
 }
 
-/// The first line, without its end, and the text behind it.
+/// The first line, without its end, and the text after it.
 #[tactic(auto, unfolding(crate::specs::Texts::line_of))]
 fn read_line(text: &[u8]) -> Result<(&[u8], &[u8]), TextFault>
     ensures { Reads

@@ -30,7 +30,7 @@ impl SetWord {
         }
     }
 
-    /// This set and the server, whose number is to be at least `from`.
+    /// This set and the server, whose number must be at least `from`.
     fn with(self, from: usize, server: ServerId) -> Self
         ensures rising { result.is_rising ≡ (self.is_rising && nat_le from server) }
         ensures servers { result.servers ≡ with_server self.servers server }

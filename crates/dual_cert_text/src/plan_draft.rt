@@ -117,7 +117,7 @@ impl PlanDraft {
     }
 }
 
-/// The row that a line says, behind rows of `count` pins.
+/// The row that a line says, after rows of `count` pins.
 #[tactic(auto, unfolding(crate::specs::PlanTexts::next_row))]
 fn next_row(rows: &[Row], count: u64, said: &RowWords) -> Result<Row, TextFault>
     requires { count ≤ MAX_PINS }
@@ -162,7 +162,7 @@ fn or_needs_costs(before: bool, row: &Row) -> bool
     before || row.kind.cost != 1
 }
 
-/// Whether the row stands strictly behind the last of the rows.
+/// Whether the row comes strictly after the last of the rows.
 fn comes_next(rows: &[Row], row: &Row) -> bool
     ensures { result ≡ comes_next rows.now row.now }
 {

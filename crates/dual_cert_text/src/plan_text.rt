@@ -18,14 +18,14 @@ use std::alloc::Global;
 
 /// The plan that the text spells, each byte of it.
 ///
-/// A text of a plan is its one spelling: `stickyplan 1`, `version V`, a line for each server (`server NAME off` or
+/// A plan has one spelling: `stickyplan 1`, `version V`, a line for each server (`server NAME off` or
 /// `server NAME cap C price P`), a line for each row (`row COUNT PLACE NEW SET`, in the plan's order, with `-` for no
-/// server), and `end`. It begins with `stickyplan 2` where some row's cost isn't 1, and then each row has its cost as its
-/// last word. Any other text has a first fault.
+/// server), and `end`. Where some row's cost isn't 1, it begins with `stickyplan 2` and each row's last word is its
+/// cost. Any other text has a first fault.
 ///
-/// One walk over the text. Each name of a set is looked for from the one before it on, so a canonical set costs one walk
-/// over the servers, at most 128, and each place another. The memory is that of the rows, some
-/// 50 bytes each, and up to three times as much while their list grows.
+/// One walk over the text. Each name of a set is looked for from the one before it on. So a canonical set costs one walk
+/// over the servers, at most 128, and each place another. The memory is that of the rows, some 50 bytes each, and up to
+/// three times as much while their list grows.
 pub fn read_plan(alloc: Global, text: &[u8]) -> Result<Plan, ReadError>
     // What is read is spelled so.
     ensures found { IfOk result (λ plan. text.now ≡ spelling plan) }
@@ -38,7 +38,7 @@ pub fn read_plan(alloc: Global, text: &[u8]) -> Result<Plan, ReadError>
     read_whole(alloc, text)
 }
 
-/// No text of a plan begins another, so a text that stands in front of other lines ends where it ends.
+/// No text of a plan begins another, so a text that has other lines after it ends where it ends.
 pub fn one_text()
     ensures { (a b : PlanParts) (rest : List ℕ) → IsPlan a → IsPlan b
         → spelling b ≡ spelling a ++ rest → (a ≡ b) × (rest ≡ []) }
@@ -74,7 +74,7 @@ fn read_draft(alloc: Global, text: &[u8]) -> Result<PlanDraft, ReadError>
     read_body(draft, heading.rest)
 }
 
-/// The lines from the third on, behind the heading.
+/// The lines from the third on, after the heading.
 fn read_body(mut draft: PlanDraft, text: &[u8]) -> Result<PlanDraft, ReadError>
     ensures { Gives (λ d. d) result (body_at plan_format 3 draft (parts 10 text.now)) }
 {
@@ -91,7 +91,7 @@ fn read_body(mut draft: PlanDraft, text: &[u8]) -> Result<PlanDraft, ReadError>
     Err(ReadError::Fault(TextFault::Truncated))
 }
 
-/// The draft, where the text may end behind line `number`, which is `end`.
+/// The draft, where the text may end after line `number`, which is `end`.
 #[tactic(auto, unfolding(crate::specs::Texts::end_at, crate::specs::PlanTexts::plan_format))]
 fn end(draft: PlanDraft, number: u64, rest: &[u8]) -> Result<PlanDraft, ReadError>
     requires { number + 1 < 2 ^ 64 }

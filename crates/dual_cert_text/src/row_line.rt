@@ -19,7 +19,7 @@ pub(crate) struct RowWords {
     pub(crate) cost: u64,
 }
 
-/// The words behind `row`.
+/// The words after `row`.
 #[tactic(auto, unfolding(crate::specs::RowLines::row_words_of))]
 pub(crate) fn read_row_words(
     has_costs: bool,
@@ -35,7 +35,7 @@ pub(crate) fn read_row_words(
     read_placed(has_costs, servers, count, place, words)
 }
 
-/// The words behind `row`, of which the first two are read.
+/// The words after `row`, of which the first two are read.
 #[tactic(auto, unfolding(crate::specs::RowLines::row_words_of))]
 fn read_placed(
     has_costs: bool,

@@ -32,7 +32,7 @@ pub(crate) fn server_named(servers: &[PricedServer], word: &[u8]) -> Option<usiz
         .position(|server| is(server.server.name.as_bytes(), word))
 }
 
-/// The number of the server with this name. It is looked for from the server `from` on first, since names mostly stand in
+/// The number of the server with this name. It is looked for from the server `from` on first, since names are mostly in
 /// the order of the servers.
 pub(crate) fn server_named_from(servers: &[PricedServer], from: usize, word: &[u8]) -> Option<usize>
     requires within { from ≤ length servers.now }
@@ -110,7 +110,7 @@ fn read_server_words(
     Some(ServerWords { name, usage })
 }
 
-/// The server that line `number` declares behind these servers.
+/// The server that line `number` declares after these servers.
 #[tactic(auto, unfolding(crate::specs::ServerLines::server_at))]
 pub fn read_server(
     number: u64,

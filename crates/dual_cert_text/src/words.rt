@@ -11,7 +11,7 @@ pub fn is(word: &[u8], wanted: &[u8]) -> bool
     *word == *wanted
 }
 
-/// The number behind the word `key`.
+/// The number after the word `key`.
 #[tactic(auto, unfolding(crate::specs::Words::keyed))]
 pub fn read_keyed(key: &[u8], word: &[u8], number: &[u8]) -> Option<u64>
     ensures { result ≡ keyed key.now word.now number.now }

@@ -86,7 +86,7 @@ pub fn place_word<S: Listed>(servers: &[S], place: Place) -> &[u8]
     }
 }
 
-/// Sends the server's name behind a comma, if the set holds the server.
+/// Sends the server's name after a comma, if the set holds the server.
 fn send_member<W: Write, S: Listed>(
     out: &mut Counted<W>,
     sent: Sent,

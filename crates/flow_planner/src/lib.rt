@@ -1,8 +1,8 @@
-//! The planner: where each pin is to go so that as few as can be go without a server, and of such plans one that moves pins at
-//! the least cost.
+//! The planner: where each pin goes. As few pins as possible go without a server; of the plans with this property it gives one that
+//! moves pins at the least cost.
 //!
-//! Promised: `plan` answers for every sheet, unless memory is short, and a checker accepts each plan that it gives. It pushes
-//! pins no more often than there are pins, and the looks that it takes for that are bounded. Start at `plan`.
+//! Promised: `plan` answers for every sheet, unless memory is short, and a checker accepts each plan that it gives. It pushes pins no
+//! more often than there are pins, and the looks that it takes for that are bounded. Start at `plan`.
 #![tactic(auto)]
 
 mod homes;

@@ -76,8 +76,8 @@ fn seat_all(network: &Network, groups: &[Group], counts: &mut [u32], loads: &mut
     }
 }
 
-/// Places the pins of the group that can't stay where they are: at options of least cost, as long as there is room, and the
-/// others over it at the first of them.
+/// Places the pins of the group that can't stay where they are. They go to options of least cost as long as there is
+/// room, and the others to the first of these options, over its room.
 fn place(
     network: &Network,
     groups: &[Group],
@@ -109,11 +109,11 @@ fn place(
     put(network, counts, loads, group, home, left);
 }
 
-/// Places all pins, where none is placed yet: first those that may stay where they are, since they cost nothing there. No push
-/// and no look.
+/// Places all pins, where none is placed yet: first those that may stay where they are, since they cost nothing there. No push and no
+/// look.
 ///
-/// Three walks over the groups; and for each group that can't stay a walk over the options behind its first one for each server
-/// that it is spread over, and a few more.
+/// Three walks over the groups. For each group that can't stay, also a walk over the options after its first one for each server that
+/// it is spread over, and a few more.
 pub(crate) fn start(network: &Network, groups: &[Group], counts: &mut [u32], loads: &mut [u32])
     requires groups { groups.now ≡ network.now.groups }
     requires roomy { IsRoomy network.now counts.old loads.old }

@@ -10,10 +10,10 @@ use flow_planner_net::Network;
 use flow_planner_repair::{Arcs, Label};
 use std::alloc::{AllocError, Global};
 
-/// A best plan for the sheet, with prices that show that it is best. The only failure is want of memory.
+/// A best plan for the sheet, with prices that show that it is best. The only failure is out of memory.
 ///
-/// With `S` servers and `G` groups it asks for `4 * (S + 1) * G + 17 * (S + 1)^2 + 48 * (S + 1)` bytes before it begins, and
-/// for the plan's rows and servers at the end.
+/// With `S` servers and `G` groups it asks for `4 * (S + 1) * G + 17 * (S + 1)^2 + 48 * (S + 1)` bytes before it begins, and for the
+/// plan's rows and servers at the end.
 pub fn plan(alloc: Global, sheet: &Sheet) -> Result<Planned, AllocError>
     // A checker accepts the plan for the sheet.
     ensures accepted { IfOk result (λ planned. IsAccepted sheet.now planned.plan) }

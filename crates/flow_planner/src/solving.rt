@@ -13,7 +13,7 @@ use lb_types_pins::Group;
 /// Places all pins at options of least cost, and pushes them until no option has more of them than room. Gives the number of
 /// pushes, at most one a pin.
 ///
-/// Takes no memory. Costs some walks over the groups, and over the options for each group that can't stay; and at most
+/// Allocates nothing. Costs some walks over the groups, and over the options for each group that can't stay; and at most
 /// `options * (groups + 1) * options` looks a push. `groups` are the network's.
 pub(crate) fn solve(
     network: &Network,

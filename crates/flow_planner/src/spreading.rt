@@ -71,8 +71,8 @@ fn fill(
     left
 }
 
-/// Deals pins of the group out to the servers that cost as little as `home`, from there on, always to the one with the least
-/// share of its capacity in use, and gives how many are left when there is no room. One walk over the options for each share.
+/// Deals pins of the group out to the servers that cost as little as `home`, from there on. Each goes to the one with the least share
+/// of its capacity in use. Gives how many are left when there is no room. One walk over the options for each share.
 fn deal(
     network: &Network,
     counts: &mut [u32],
@@ -140,7 +140,7 @@ pub(crate) fn spread_out(
     fill(network, counts, loads, group, home, Level::full(), left)
 }
 
-/// Of the options that cost as little as `home`, from there on, the first one with room that has the least share of it in use;
+/// Of the options that cost as little as `home`, from there on, the first one with room that has the least share of it in use. It is
 /// `home` where none has room. One walk over the options.
 fn emptiest(network: &Network, loads: &[u32], group: usize, home: usize) -> usize
     requires group { group < size network.now }

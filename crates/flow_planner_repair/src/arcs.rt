@@ -12,7 +12,7 @@ const BLOCK: usize = 64;
 
 /// The least arcs between options, kept from one search to the next, and the count of looks.
 ///
-/// A look is one test of moving one group's pins from an option to another. The arc between two options is found anew only
+/// A look is one test of moving one group's pins from an option to another. The arc between two options is found again only
 /// after a move of pins that could have made another group's less.
 ///
 /// It is also remembered to which options pins were moved last: the next way to an option with room is likely to lead through
@@ -81,7 +81,7 @@ impl Arcs {
         self.least[source * width + target]
     }
 
-    /// Whether the arc between two options has to be found anew.
+    /// Whether the arc between two options has to be found again.
     fn is_stale(&self, width: usize, source: usize, target: usize) -> bool
         requires { source * width + target < length self.now.fresh }
         ensures stale { result ≡ true → is_fresh width self.now.fresh source target ≡ false }
@@ -90,7 +90,7 @@ impl Arcs {
         !self.fresh[source * width + target]
     }
 
-    /// Whether no arc from this option has to be found anew.
+    /// Whether no arc from this option has to be found again.
     fn are_fresh(&self, width: usize, source: usize) -> bool
         requires source { source < width }
         requires marks { length self.now.fresh ≡ width * width }

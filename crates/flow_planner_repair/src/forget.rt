@@ -1,4 +1,4 @@
-//! Which arcs have to be found anew after a move of pins.
+//! Which arcs have to be found again after a move of pins.
 
 ghost use Rattle.std.specs.Prelude.{◌≡◌, ◌+◌, ◌*◌, ◌^◌, ◌<◌, ◌≤◌, ℕ, true, false, Some, length};
 ghost use Rattle.flow_planner_net.specs.Networks.{options, size, may};

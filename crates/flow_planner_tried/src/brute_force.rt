@@ -1,7 +1,7 @@
 //! The planner against all assignments of the pins, on small sheets.
 //!
-//! What makes no difference is left out of the enumerations: the order of the servers (their capacities rise, and those that
-//! are off come last), and capacities above the number of pins.
+//! The enumerations leave out what makes no difference: the order of the servers (their capacities rise, and those that are off come
+//! last), and capacities above the number of pins.
 
 use crate::plain_sheet::{PlainKind, PlainSheet, Spot, usable};
 use crate::random_sheets::Dice;
@@ -12,7 +12,7 @@ use std::collections::BTreeMap;
 use std::process::Abort;
 use std::test::Fail;
 
-/// Which digits may stand behind a list of them.
+/// Which digits may follow a list of them.
 #[derive(Clone, Copy)]
 enum Order {
     Any,
@@ -34,7 +34,7 @@ fn digit_lists(
     Ok(lists)
 }
 
-/// Each list with each digit behind it.
+/// Each list with each digit after it.
 fn lists_behind(
     alloc: Global,
     lists: &[Vec<u8>],
@@ -52,7 +52,7 @@ fn lists_behind(
     Ok(longer)
 }
 
-/// Adds the list with each digit from the least one on behind it.
+/// Adds the list with each digit from the least one on after it.
 fn add_digits(
     longer: &mut Vec<Vec<u8>>,
     list: &Vec<u8>,

@@ -1,5 +1,5 @@
-//! Farms on which many plans are best, and an operator would choose an even one: pins that can't stay where they are, are spread
-//! over the servers by the share of their capacity in use. No contract promises it.
+//! Farms on which many plans are best, and an operator would choose an even one. Pins that can't stay where they are, are spread over
+//! the servers by the share of their capacity in use. No contract promises it.
 
 use cert_check::check;
 use dual_cert::{Plan, read_sheet};
@@ -7,8 +7,8 @@ use flow_planner::plan;
 use std::process::Abort;
 use std::test::Fail;
 
-/// Texts of sheets; how many pins each server is to have in the end; and by how many a server may have more or fewer: an eighth
-/// of what a server gets on average, and one for each server that gets some.
+/// Texts of sheets; how many pins each server is to have in the end; and by how many a server may have more or fewer. That is an
+/// eighth of what a server gets on average, and one for each server that gets some.
 const FARMS: &[(&str, &[u32], u32)] = &[
     // One of four equal servers is drained.
     (

@@ -71,7 +71,7 @@ fn random_sheet(alloc: Global, dice: &mut Dice) -> Result<PlainSheet, AllocError
     Ok(plain)
 }
 
-/// Plans the sheet, which the check has to accept, with at most one push a pin, and tells how many pushes it took.
+/// Plans the sheet, which the check has to accept, with at most one push a pin, and returns how many pushes it took.
 fn pushes_of(rt: &impl Abort, alloc: Global, plain: &PlainSheet) -> Result<u64, Fail> {
     let sheet = plain.sheet(alloc)?;
     let planned = plan(alloc, &sheet)?;

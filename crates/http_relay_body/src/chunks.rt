@@ -17,9 +17,9 @@ pub(crate) use crate::chunks::whole::whole_chunks;
 use crate::fault::BodyFault;
 use http_relay_wire::Wire;
 
-/// Passes on a chunked body. In the usual case a chunk costs one read and one write: as much is read at once as must still come, so
-/// that no byte behind the body is read, and what was judged goes out together before the next read. Since nothing is waited for
-/// behind a bad line, a size line costs a walk over what has come of it at each read; of a trailer each byte is looked at once.
+/// Passes on a chunked body. In the usual case a chunk costs one read and one write. As much is read at once as must still come, so
+/// no byte after the body is read. What was judged goes out together before the next read. Nothing is waited for after a bad line, so
+/// a size line costs a walk over what has come of it at each read. Of a trailer each byte is looked at once.
 pub(crate) fn pass_chunks<C: Wire, S: Wire>(
     at_hand: &mut AtHand<'_>,
     client: &mut C,
@@ -60,7 +60,7 @@ fn judge_chunks<C: Wire, S: Wire>(
     }
 }
 
-/// Judges the next chunk, and behind the one of size 0 the trailer; answers whether it was that one.
+/// Judges the next chunk, and after the one of size 0 the trailer; answers whether it was that one.
 fn pass_chunk<C: Wire, S: Wire>(
     at_hand: &mut AtHand<'_>,
     client: &mut C,

@@ -10,12 +10,12 @@ use http_relay_forward::BodyKind;
 pub struct BodyFront {
     /// How many bytes of it there are.
     pub len: usize,
-    /// What the body is behind them.
+    /// What the body is after them.
     pub rest: BodyKind,
 }
 
 impl BodyFront {
-    /// The front of a body of this kind that stands in these bytes, the client's behind the head: of so many bytes those that are
+    /// The front of a body of this kind in these bytes, which are the client's after the head. Of so many bytes it is those that are
     /// there, and of chunks those that are whole, the last one with its trailer. It costs a walk over the size lines and the trailer,
     /// and none over the data.
     pub fn of(kind: BodyKind, behind: &[u8]) -> Self

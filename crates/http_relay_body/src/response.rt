@@ -6,7 +6,7 @@ ghost use Rattle.http_relay_body.specs.Copying.{CopiedOn, has_ended, told};
 use http_relay_wire::{Wire, WireFault, write_all};
 use thiserror::Error;
 
-/// The most bytes that are moved at once: with as many a call of the system costs little beside the bytes that it moves.
+/// The most bytes that are moved at once: with as many, a system call costs little beside the bytes that it moves.
 const ROOM: usize = 65536;
 
 /// The bytes of the room that a response begins in. Most end within it, and a room costs as many bytes written as it has.
@@ -18,7 +18,7 @@ pub enum CopyFault {
     /// 93: a read from the server failed before its first byte.
     #[error("the server sent nothing")]
     NoResponse(WireFault),
-    /// 93: a read from the server failed behind its first byte.
+    /// 93: a read from the server failed after its first byte.
     #[error("the server's response was cut short")]
     CutShort(WireFault),
     /// 93: a write to the client failed.
@@ -40,15 +40,15 @@ impl CopyFault {
 /// How far a response was copied.
 #[derive(Clone, Copy, Debug, PartialEq, Eq)]
 pub(crate) enum Progress {
-    /// The server has ended behind so many bytes.
+    /// The server has ended after so many bytes.
     Ended(u64),
     /// So many bytes were copied, and the last read gave as many as there was room for.
     Goes(u64),
 }
 
-/// Copies what the server sends to the client, byte for byte, until the server ends, and answers how many bytes it sent (at
-/// most 2^64 - 1 is told). It takes no memory: the bytes go through a buffer, and what a read gave is written before the next. The
-/// buffer has 4 KiB until a read fills it, and 64 KiB from there on.
+/// Copies what the server sends to the client, byte for byte, until the server ends, and answers how many bytes it sent (never more
+/// than 2^64 - 1). It allocates nothing: the bytes go through a buffer, and what a read gave is written before the next. The buffer
+/// has 4 KiB until a read fills it, and 64 KiB from there on.
 pub fn copy_back<S: Wire, C: Wire>(server: &mut S, client: &mut C) -> Result<u64, CopyFault>
     ensures copied { Copied (S.reading server.old) (S.reading server.new) (C.written client.old) (C.written client.new) result }
     ensures server { S.faults server.new ≡ server_faults result (S.faults server.old) }
@@ -63,7 +63,7 @@ pub fn copy_back<S: Wire, C: Wire>(server: &mut S, client: &mut C) -> Result<u64
     }
 }
 
-/// Copies what comes behind the first bytes of a response, which were so many.
+/// Copies what comes after the first bytes of a response, which were so many.
 fn copy_rest<S: Wire, C: Wire>(
     server: &mut S,
     client: &mut C,
@@ -82,7 +82,7 @@ fn copy_rest<S: Wire, C: Wire>(
     }
 }
 
-/// Copies through this room behind so many bytes, until the server ends, or also until a read fills the room where it `pauses` there.
+/// Copies through this room after so many bytes, until the server ends. Where it `pauses`, a read that fills the room ends it too.
 fn copy_through<S: Wire, C: Wire>(
     server: &mut S,
     client: &mut C,

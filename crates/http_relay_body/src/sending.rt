@@ -12,9 +12,9 @@ use http_relay_wire::Wire;
 /// The bytes of the room that a body of so many bytes goes through.
 const ROOM: usize = 16384;
 
-/// Sends a request's body of this kind from the client to the server, byte for byte. `behind` is what was read of the client
-/// behind the head, and nothing is read past the body's end. It takes no memory: the bytes go through one buffer, and what a
-/// read gave is written before the next, but for a part of a chunked body that isn't whole yet.
+/// Sends a request's body of this kind from the client to the server, byte for byte. `behind` is what was read of the client after
+/// the head, and nothing is read past the body's end. It allocates nothing: the bytes go through one buffer. What a read gave is
+/// written before the next, except a part of a chunked body that isn't whole yet.
 pub fn send_body<C: Wire, S: Wire>(
     kind: BodyKind,
     behind: &[u8],
@@ -28,7 +28,7 @@ pub fn send_body<C: Wire, S: Wire>(
     ensures client_written { C.written client.new ≡ C.written client.old }
     ensures server_reading { S.reading server.new ≡ S.reading server.old }
 
-    // What the answer says of all that the client sends behind the head, where it is known.
+    // What the answer says of all that the client sends after the head, where it is known.
     ensures input { IfSome (C.reading client.old).unread (λ input. JudgesInput kind (behind.now ++ input) result) }
 {
     let mut at_hand = AtHand::new(behind);

@@ -7,7 +7,7 @@ use http_relay_wire::{Wire, WireFault};
 
 /// What makes connections to servers, and ends them.
 pub trait Dialer<R> {
-    /// A connection to a server. It can't be dropped: whoever got it gives it back.
+    /// A connection to a server. It can't be dropped: the caller that got it gives it back.
     type Connection: Wire;
 
     /// The dials that were made, in their order, as far as they are recorded.

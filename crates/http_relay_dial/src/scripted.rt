@@ -20,8 +20,8 @@ pub struct ScriptedDial<'a> {
     pub answer: DialScript<'a>,
 }
 
-/// A dialer over memory, for tests. A wire takes of the bytes that it is dialled with what its first write would take. The dialer records
-/// its dials, keeps the wires that were given back, and loses a record where memory for it is short.
+/// A dialer over memory, for tests. A wire takes of the bytes that it is dialled with what its first write would take. The dialer
+/// records its dials and keeps the wires that were given back. It loses a record where memory for it is short.
 #[derive(Debug, Drop)]
 pub struct ScriptedDialer<'a> {
     alloc: Global,
@@ -33,7 +33,7 @@ pub struct ScriptedDialer<'a> {
 }
 
 impl<'a> ScriptedDialer<'a> {
-    /// A dialer that answers so, in turn. Dials behind the last are broken.
+    /// A dialer that answers so, in turn. Dials after the last are broken.
     pub fn new(alloc: Global, servers: &'a [DialScript<'a>]) -> Self
         ensures dials { ⟦<ScriptedDialer<'a> as Dialer<()>>⟧.dials result ≡ Some [] }
         ensures talks { ⟦<ScriptedDialer<'a> as Dialer<()>>⟧.talks result ≡ Some [] }

@@ -7,8 +7,9 @@ use crate::{ExchangeFault, Outgoing};
 use http_relay_body::copy_back;
 use http_relay_wire::Wire;
 
-/// Sends the request over a connection that has taken so many bytes of its opening, and then copies the response until the server ends. It
-/// answers how many bytes that was, at most 2^64 - 1. Nothing of a response goes to the client before the whole request was sent.
+/// Sends the request over a connection that has taken so many bytes of its opening, and then copies the response until the server
+/// ends. It answers how many bytes that was, at most 2^64 - 1. Nothing of a response goes to the client before the whole request was
+/// sent.
 pub fn exchange<C: Wire, S: Wire>(
     request: &Outgoing<'_>,
     taken: usize,

@@ -5,7 +5,7 @@ use thiserror::Error;
 /// Why a request was not sent to its end.
 #[derive(Clone, Copy, Debug, PartialEq, Eq, Error)]
 pub enum SendFault {
-    /// The client couldn't be told to go on.
+    /// `100 Continue` couldn't be sent to the client.
     #[error("the client's wire failed before the body")]
     Continue(WireFault),
     /// The head couldn't be written to the server.

@@ -7,13 +7,14 @@ use crate::{Outgoing, SendFault};
 use http_relay_body::{BodyFault, BodyFront};
 use http_relay_wire::{Wire, write_all};
 
-/// The bytes of the room that a head and the front of its body go out through together. It is enough for the forwarded form of a head of
-/// 16384 bytes, and for that of a shorter one with what came behind it in one room of 16384.
+/// The bytes of the room that a head and the front of its body go out through together. It is enough for the forwarded form of a head
+/// of 16384 bytes, and for that of a shorter one with what came after it in one room of 16384.
 const ROOM: usize = 17408;
 
-/// Sends the head, of which so many bytes may have gone out before, and in the same writes the front of the body that came with the client's
-/// head, as much of it as the room has place for. It answers what that front was. Where the server takes all bytes at once that is one write. A front costs a copy of it and
-/// of the head, and the room; where there is none the head is written from where it stands.
+/// Sends the head, of which so many bytes may have gone out before. In the same writes goes the front of the body that came with the
+/// client's head, as much of it as the room has place for. It answers what that front was. Where the server takes all bytes at once
+/// that is one write. A front costs a copy of it and of the head, and the room; where there is none the head is written from where it
+/// stands.
 pub(crate) fn send_head<S: Wire>(
     request: &Outgoing<'_>,
     taken: usize,
@@ -60,7 +61,7 @@ fn send_both<S: Wire>(head: &[u8], front: &[u8], server: &mut S) -> Result<(), S
     send_joined(&room[..len], head.len(), server)
 }
 
-/// Copies a head into this room, and the front of its body behind it.
+/// Copies a head into this room, and the front of its body after it.
 fn join(head: &[u8], front: &[u8], room: &mut [u8])
     requires { length room.old ≡ length head.now + length front.now }
     ensures { room.new ≡ head.now ++ front.now }
@@ -70,7 +71,7 @@ fn join(head: &[u8], front: &[u8], room: &mut [u8])
     room[len..].copy_from_slice(front);
 }
 
-/// Sends these bytes, the first of which, so many, are a head, and the others the front of its body. As long as a write has taken a part of
+/// Sends these bytes: the first, so many, are a head, and the others the front of its body. As long as a write has taken a part of
 /// the head alone, the next one has all that is left.
 fn send_joined<S: Wire>(bytes: &[u8], head: usize, server: &mut S) -> Result<(), SendFault>
     requires { head ≤ length bytes.now }

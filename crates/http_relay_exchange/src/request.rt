@@ -27,8 +27,8 @@ impl<'a> Model for Outgoing<'a> {
 }
 
 impl<'a> Outgoing<'a> {
-    /// A request with the head that the server gets. `behind` is what was read of the client behind its own head, and
-    /// `expects_continue` says that the client waits to be told to go on.
+    /// A request with the head that the server gets. `behind` is what was read of the client after its own head, and
+    /// `expects_continue` says that the client waits for `100 Continue`.
     pub fn new(head: &'a [u8], kind: BodyKind, behind: &'a [u8], expects_continue: bool) -> Self
         ensures { result ≡ record { head = head.now; kind = kind; behind = behind.now; expects_continue = expects_continue } }
     {
@@ -40,8 +40,8 @@ impl<'a> Outgoing<'a> {
         }
     }
 
-    /// What the server may get with the dial, before `exchange`: the head; but nothing where the client is told to go on before that, or where
-    /// bytes of a body came with the head, which go out in the same writes.
+    /// What the server may get with the dial, before `exchange`: the head. It is nothing where the client gets `100 Continue` before
+    /// that, or where bytes of a body came with the head, which go out in the same writes.
     pub fn opening(&self) -> &'a [u8]
         ensures { result.now ≡ opening self.now }
     {
@@ -58,21 +58,21 @@ impl<'a> Outgoing<'a> {
         self.head
     }
 
-    /// How the end of the body is told.
+    /// How the end of the body is found.
     pub(crate) fn kind(&self) -> BodyKind
         ensures { result ≡ self.now.kind }
     {
         self.kind
     }
 
-    /// What was read of the client behind its head.
+    /// What was read of the client after its head.
     pub(crate) fn behind(&self) -> &'a [u8]
         ensures { result.now ≡ self.now.behind }
     {
         self.behind
     }
 
-    /// Whether the client waits to be told to go on.
+    /// Whether the client waits for `100 Continue`.
     pub(crate) fn expects_continue(&self) -> bool
         ensures { result ≡ self.now.expects_continue }
     {

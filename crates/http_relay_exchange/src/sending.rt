@@ -8,9 +8,9 @@ use http_relay_body::send_body;
 use http_relay_forward::continue_text;
 use http_relay_wire::{Wire, WireFault, write_all};
 
-/// Sends the request, of whose opening so many bytes were taken: the client is told to go on where it waits for that, and then head and body go to the server. What of the
-/// body came with the client's head goes out with the head: of a body of so many bytes all of it, and of a chunked one the chunks
-/// that came whole.
+/// Sends the request, of whose opening so many bytes were taken. A client that waits for `100 Continue` gets it first, and then head
+/// and body go to the server. The part of the body that came with the client's head goes out with the head. Of a body of so many
+/// bytes that is all of it, and of a chunked one the chunks that came whole.
 pub(crate) fn send_request<C: Wire, S: Wire>(
     request: &Outgoing<'_>,
     taken: usize,
@@ -33,7 +33,7 @@ pub(crate) fn send_request<C: Wire, S: Wire>(
     }
 }
 
-/// Tells the client to go on, where it waits for that.
+/// Sends `100 Continue` to the client, where it waits for that.
 fn invite<C: Wire>(request: &Outgoing<'_>, client: &mut C) -> Result<(), WireFault>
     ensures { Invites request.now
         (talk_of C.written C.reading C.faults client.old) (talk_of C.written C.reading C.faults client.new) result }

@@ -1,14 +1,14 @@
 ghost use Rattle.std.specs.Prelude.{◌≡◌};
 ghost use Rattle.http_relay_forward.specs.Answers.{status, answer_text, continue_text};
 
-/// An answer that the relay gives by itself. Its text is a constant, so giving it takes no memory.
+/// An answer that the relay gives by itself. Its text is a constant, so giving it allocates nothing.
 #[derive(Clone, Copy, Debug, PartialEq, Eq, Hash)]
 pub enum OwnAnswer {
     /// 400: the head or the body is not one that a server may see, or was cut short.
     BadRequest,
     /// 408: the client took too long with its head.
     RequestTimeout,
-    /// 500: memory ran out, or the backend is worn.
+    /// 500: memory ran out, or the backend is exhausted.
     InternalServerError,
     /// 502: the server broke off before it answered.
     BadGateway,
@@ -48,7 +48,7 @@ impl OwnAnswer {
     }
 }
 
-/// What tells a client to send its body.
+/// The text of `100 Continue`, after which a client sends its body.
 pub fn continue_text() -> &'static [u8]
     ensures { result.now ≡ continue_text }
 {

@@ -10,7 +10,7 @@ use lb_acl::{Field, Head, Version, trimmed};
 use lb_types_text::Digits;
 use thiserror::Error;
 
-/// How the end of a request's body is told.
+/// How the end of a request's body is found.
 #[derive(Clone, Copy, Debug, PartialEq, Eq)]
 pub enum BodyKind {
     /// The request has no body.
@@ -24,17 +24,17 @@ pub enum BodyKind {
 /// Why no server may see a head.
 #[derive(Clone, Copy, Debug, PartialEq, Eq, Error)]
 pub enum HeadRefusal {
-    /// The method is `CONNECT`, `Connection` names a field that tells the host or the body, the transfer coding isn't the
-    /// one `chunked` of HTTP/1.1, or a length isn't 1 to 18 digits.
+    /// The method is `CONNECT`, `Connection` names a field that gives the host or frames the body, the transfer coding
+    /// isn't the one `chunked` of HTTP/1.1, or a length isn't 1 to 18 digits.
     #[error("the head is not one that a server may see")]
     BadHead,
-    /// The length of the body is told twice, and not alike.
+    /// The length of the body is given twice, and not alike.
     #[error("the length of the body is told in two ways")]
     BothLengths,
 }
 
-/// How the end of the request's body is told, or why the head is refused. It walks the fields some ten times and takes no
-/// memory.
+/// How the end of the request's body is found, or why the head is refused. It walks the fields some ten times and
+/// allocates nothing.
 #[tactic(auto, unfolding(crate::specs::Framing::framing))]
 pub fn body_kind(head: &Head) -> Result<BodyKind, HeadRefusal>
     ensures { result ≡ framing head.now }

@@ -1,8 +1,8 @@
-//! What the relay makes of a request's head: whether it is refused, how its body is told, and what the server gets.
+//! What the relay makes of a request's head: whether it is refused, how its body is framed, and what the server gets.
 //!
 //! Promised: `body_kind` refuses exactly the heads that `specs/Framing.antt` names, of which two readers could see
-//! different requests, and tells how the body of the others ends; `rewrite` gives exactly the forwarded head of
-//! `specs/Forwarded.antt`; an `OwnAnswer` is exactly its text, and takes no memory. Start at `body_kind`.
+//! different requests, and says how the body of the others ends. `rewrite` gives exactly the forwarded head of
+//! `specs/Forwarded.antt`. An `OwnAnswer` is exactly its text, and allocates nothing. Start at `body_kind`.
 #![tactic(auto)]
 
 mod answer;

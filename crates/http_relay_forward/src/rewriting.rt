@@ -9,7 +9,7 @@ use std::net::Ipv4Addr;
 /// Room for the forwarded form of a head of 16384 bytes with 100 fields, so that it is asked for once.
 const ROOM: usize = 17000;
 
-/// The head that the server gets: under `forwardfor` with the client's address. The error is want of memory.
+/// The head that the server gets: under `forwardfor` with the client's address. The only error is out of memory.
 pub fn rewrite(alloc: Global, head: &Head, forwardfor: bool) -> Result<Vec<u8>, AllocError>
     ensures { IfOk result (λ text. text.items ≡ forwarded head.now forwardfor) }
 {

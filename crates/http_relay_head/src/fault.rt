@@ -20,10 +20,10 @@ pub enum HeadFault {
     /// 93: the wire failed.
     #[error("the wire failed in the head")]
     Wire(WireFault),
-    /// 95: the head tells the length of its body in two ways.
+    /// 95: the head gives the length of its body in two ways.
     #[error("the length of the body is told in two ways")]
     BothLengths,
-    /// Want of memory.
+    /// Out of memory.
     #[error("out of memory")]
     Memory,
 }
@@ -31,7 +31,7 @@ pub enum HeadFault {
 impl HeadFault {
     ghost use Rattle.http_relay_head.specs.Heads.{fault_number};
 
-    /// The number of the fault, and none for want of memory.
+    /// The number of the fault, and none for out of memory.
     pub fn number(self) -> Option<u16>
         ensures { result ≡ fault_number self }
     {

@@ -5,7 +5,7 @@ use lb_acl::{Field, Head, Version};
 use std::marker::Model;
 use std::net::Ipv4Addr;
 
-/// A head that was read, how the end of its body is told, and what was read behind it.
+/// A head that was read, how the end of its body is found, and what was read after it.
 #[derive(Debug, Drop)]
 pub struct ReadHead<'a> {
     pub(crate) method: &'a [u8],
@@ -49,14 +49,14 @@ impl<'a> ReadHead<'a> {
         )
     }
 
-    /// How the end of the body is told.
+    /// How the end of the body is found.
     pub fn body_kind(&self) -> BodyKind
         ensures { result ≡ self.now.kind }
     {
         self.kind
     }
 
-    /// The bytes that were read behind the head.
+    /// The bytes that were read after the head.
     pub fn rest(&self) -> &'a [u8]
         ensures { result.now ≡ self.now.rest }
     {

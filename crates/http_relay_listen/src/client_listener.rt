@@ -4,8 +4,8 @@ use std::io;
 use std::net::{Ipv4Addr, OpenListener, SocketAddr, SocketAddrV4, TcpListener, TcpStream};
 use std::os::fd::{AsRawFd, RawFd};
 
-/// A listener for clients at an IPv4 address. What it accepts doesn't block, and has cost one call of the system, where std's listener and
-/// that of `mio` make a second one for it.
+/// A listener for clients at an IPv4 address. What it accepts doesn't block, and has cost one system call; the listeners of std and
+/// `mio` make a second one for it.
 #[derive(Debug, Drop)]
 pub struct ClientListener {
     socket: TcpListener,
@@ -55,8 +55,8 @@ impl AsRawFd for ClientListener {
     }
 }
 
-/// The address that the system has put there (`sockaddr_in`): behind two bytes for its family the port and the host, each with its high
-/// byte first.
+/// The address that the system has put there (`sockaddr_in`): after two bytes for its family the port and the host, each with its
+/// high byte first.
 fn address_in(bytes: &[u8; _SS_SIZE]) -> SocketAddrV4 {
     let port = u16::from_be_bytes([bytes[2], bytes[3]]);
     SocketAddrV4::new(Ipv4Addr::new(bytes[4], bytes[5], bytes[6], bytes[7]), port)

@@ -1,7 +1,7 @@
 //! Listeners: where clients and operators connect, and how an accept that fails is followed by the next.
 //!
 //! Promised: nothing by a clause, since no clause says what the system does. Tested: `listen` has the longest backlog that the system
-//! allows, what it accepts sends at once, and an accept ends where nobody comes, so that a stop is seen; what a `ClientListener` accepts
+//! allows; what it accepts sends at once; an accept ends where nobody comes, so that a stop is seen; what a `ClientListener` accepts
 //! doesn't block, and has its limits. Start at `listen`.
 #![tactic(auto)]
 

@@ -5,7 +5,7 @@ use std::net::{Net, SocketAddr, SocketAddrV4, TcpListener, TcpStream};
 use std::os::fd::OwnedFd;
 use std::time::Duration;
 
-/// How many milliseconds an accept waits for a connection before it tells that none came.
+/// How many milliseconds an accept waits for a connection before it reports that none came.
 const TICK_MILLIS: u64 = 100;
 
 /// Listens at this address, with the longest backlog that the system allows. What is accepted sends at once what it is given, and an
@@ -17,9 +17,9 @@ pub fn listen<R: Net>(rt: &R, address: SocketAddrV4) -> io::Result<TcpListener> 
     Ok(TcpListener::from(with_tick(OwnedFd::from(socket))?))
 }
 
-/// Listens at this address as `listen` does, but that its accepts don't wait: one ends as `WouldBlock` where nobody waits to be accepted.
-/// What it accepts doesn't block, and has these limits on reads and writes for calls that do, once it is set to: they are set here once
-/// and cost no connection a call of the system.
+/// Listens at this address as `listen` does, except that its accepts don't wait: one ends as `WouldBlock` where no connection waits.
+/// What it accepts doesn't block, and has these limits on reads and writes for calls that do, once it is set to. They are set here
+/// once and cost no connection a system call.
 pub fn listen_within<R: Net>(
     rt: &R,
     address: SocketAddrV4,
@@ -40,8 +40,8 @@ fn bound<R: Net>(rt: &R, address: SocketAddrV4) -> io::Result<TcpStream> {
     Ok(socket)
 }
 
-/// The listening socket, whose accepts now end as `WouldBlock` where none came for 100 ms. What it accepts has that limit on its reads,
-/// until another is set. The error is the system's.
+/// The listening socket, whose accepts now end as `WouldBlock` where none came for 100 ms. What it accepts has that limit on its
+/// reads, until another is set. The error is the system's.
 pub fn with_tick(socket: OwnedFd) -> io::Result<OwnedFd> {
     // A listener's limit on reads is the limit of its accepts.
     let socket = TcpStream::from(socket);

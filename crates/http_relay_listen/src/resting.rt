@@ -2,11 +2,11 @@ use std::io::ErrorKind;
 use std::time::{Clock, Duration};
 use std::{io, thread};
 
-/// How many milliseconds nothing is accepted behind an error that may last.
+/// How many milliseconds nothing is accepted after an error that may last.
 const REST_MILLIS: u64 = 10;
 
-/// Rests for 10 ms behind an error of an accept that may last, as too many open files, so that nobody spins on it. An accept that ended
-/// because nobody came, or whose client left at once, is followed by the next without a rest.
+/// Rests for 10 ms after an error of an accept that may last, such as too many open files, so that no loop spins on it. An accept
+/// that ended because nobody came, or whose client left at once, is followed by the next without a rest.
 pub fn rest_after<R: Clock>(rt: &R, error: &io::Error) {
     if !passes(error) {
         thread::sleep(rt, Duration::from_millis(REST_MILLIS));

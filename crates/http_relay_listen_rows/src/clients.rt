@@ -77,7 +77,8 @@ fn connections_have_their_limits(rt: HostRuntime) -> Result<(), Fail> {
     Ok(())
 }
 
-// What is accepted is the connection of the client who is told, and a read of it doesn't wait. Where nobody waits no accept does.
+// What is accepted is the connection of the client that is reported, and a read of it doesn't wait. Where no client waits no accept
+// does.
 #[test]
 fn accepted_connections_do_not_block(rt: HostRuntime) -> Result<(), Fail> {
     let listener = listen_within(&rt, any_port(), NONE)?;

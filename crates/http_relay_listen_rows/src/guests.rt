@@ -37,8 +37,8 @@ fn is_next<R: Wait + Clock>(
     }
 }
 
-// A client that sends its request byte by byte, one that ends within its head, one whose head can't become one and one that sends all at
-// once, the last of which comes first.
+// A client that sends its request byte by byte, one that ends within its head, one whose head can't become one, and one that sends
+// all at once. The last one comes first.
 fn come_in_turn<R: Wait + Clock + Net<Stream = TcpStream>>(
     rt: &R,
     address: SocketAddr,
@@ -86,8 +86,8 @@ fn a_slow_head_hinders_no_other(rt: HostRuntime) -> Result<(), Fail> {
     Ok(())
 }
 
-// The client that sends a byte within its limit goes after the one that is silent, and both within some 50 ms of their limits. Milliseconds
-// until each went, and whether they were told as timed out with what they had sent.
+// The client that sends a byte within its limit goes after the one that is silent, and both within some 50 ms of their limits.
+// Milliseconds until each went, and whether they were reported as timed out with what they had sent.
 fn are_dismissed<R: Wait + Clock + Net<Stream = TcpStream>>(
     rt: &R,
     address: SocketAddr,
@@ -107,7 +107,8 @@ fn are_dismissed<R: Wait + Clock + Net<Stream = TcpStream>>(
     Ok((first_millis, second_millis, first && second))
 }
 
-// Each byte begins the limit anew. The lobby reads its clock in whole milliseconds, so that a limit may end within one of them before its time.
+// Each byte begins the limit anew. The lobby reads its clock in whole milliseconds, so a limit may end up to one of them before its
+// time.
 #[test]
 fn a_silent_client_is_dismissed(rt: HostRuntime) -> Result<(), Fail> {
     let listener = listen_within(&rt, any_port(), SHORT)?;
@@ -157,8 +158,8 @@ fn oldest_goes<R: Wait + Clock + Net<Stream = TcpStream>>(
     Ok(second_went && third_is_closed)
 }
 
-// Where one client more comes than there is room for, the one that was silent for longest goes. At a stop the others of a frontend without
-// a limit are closed without an answer.
+// Where one client more comes than there is room for, the one that was silent for longest goes. At a stop the others of a frontend
+// without a limit are closed without an answer.
 #[test]
 fn the_oldest_leaves_a_full_lobby(rt: HostRuntime) -> Result<(), Fail> {
     let listener = listen_within(&rt, any_port(), NONE)?;
@@ -175,8 +176,8 @@ fn the_oldest_leaves_a_full_lobby(rt: HostRuntime) -> Result<(), Fail> {
     Ok(())
 }
 
-// What a stop does to a client within its head, under these limits: whether it is told as timed out, whether nobody can connect before that,
-// and whether it was closed meanwhile.
+// What a stop does to a client within its head, under these limits: whether it is reported as timed out, whether nobody can connect
+// before that, and whether it was closed meanwhile.
 fn stopped_within<R: Wait + Clock + Net<Stream = TcpStream>>(
     rt: &R,
     address: SocketAddr,
@@ -195,7 +196,8 @@ fn stopped_within<R: Wait + Clock + Net<Stream = TcpStream>>(
     Ok((is_told, is_refused, is_closed))
 }
 
-// At a stop a client within its head keeps its limit, and is told as timed out; one without a limit is closed at once.
+// At a stop a client within its head keeps its limit, and is reported as timed out; one without a limit is closed at
+// once.
 #[test]
 fn a_stop_leaves_guests_their_limit(rt: HostRuntime) -> Result<(), Fail> {
     for (limits, wanted) in [(SHORT, (true, true, true)), (NONE, (false, true, true))] {

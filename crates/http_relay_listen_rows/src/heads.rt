@@ -45,7 +45,7 @@ fn agree(rt: &HostRuntime, bytes: &[u8], room: &mut [u8; HEAD_ROOM]) -> bool {
     }
 }
 
-// What a search takes for a head the worker's own reading never waits behind, and what that takes for a head a search finds.
+// Where a search finds a head, the worker's own reading never waits for more. Where that reading finds one, so does a search.
 #[test]
 fn a_head_is_found_where_a_worker_has_it(rt: HostRuntime) -> Result<(), Fail> {
     let mut room = [0; HEAD_ROOM];

@@ -1,4 +1,4 @@
-//! Connections of clients and of operators: who accepts them, what they have, and when that ends.
+//! Connections of clients and of operators: what accepts them, what they have, and when that ends.
 //!
 //! Tests alone. Start at `clients`; `site` has what several of them share.
 #![tactic(auto)]

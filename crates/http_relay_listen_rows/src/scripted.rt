@@ -175,7 +175,8 @@ fn wait_until_full<R: Clock>(rt: &R, line: &Receiver<Arrival<Scripted>>) {
     thread::sleep(rt, Duration::from_millis(50));
 }
 
-// A full line lets nobody be accepted but the one by whom that was seen, holds up no stop, and loses nobody.
+// While the line is full only the client is accepted at which that was seen. It holds up no stop, and no client is
+// lost.
 #[test]
 fn a_full_line_holds_nobody_up(rt: HostRuntime) -> Result<(), Fail> {
     let stop = AtomicBool::new(false);

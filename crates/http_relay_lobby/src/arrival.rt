@@ -24,7 +24,7 @@ pub struct Arrival<S> {
     pub frontend: usize,
     /// The first bytes that the client sent, which were read from the stream.
     pub head: Vec<u8>,
-    /// How reading failed behind these bytes. Without a fault the stream has what follows.
+    /// How reading failed after these bytes. Without a fault the stream has what follows.
     pub failed: Option<WireFault>,
     pub ghost short: { vec_len head ≤ HEAD_ROOM },
 }
@@ -54,7 +54,8 @@ impl<S: Drop> Arrival<S> {
         }
     }
 
-    /// The same connection, of which these bytes more were read. The error is want of memory, and hands the stream back.
+    /// The same connection, of which these bytes more were read. The only error is out of memory; it hands the stream
+    /// back.
     pub fn with_read(self, bytes: &[u8]) -> Result<Self, S>
         requires { vec_len self.head + length bytes.now ≤ HEAD_ROOM }
         ensures head { IfOk result (λ arrival. arrival.head.items ≡ self.head.items ++ bytes.now) }
@@ -100,8 +101,8 @@ impl<S: Drop> Arrival<S> {
     }
 }
 
-/// Adds these bytes, which takes a room of 64 bytes, or of 128, and so on. A listener takes the rooms and workers give them back: the C
-/// library keeps some of each size for each worker, which takes none itself, so that each size costs memory for good.
+/// Adds these bytes, which takes a room of 64 bytes, or of 128, and so on. A listener takes the rooms and workers give them back. The
+/// C library keeps some of each size for each worker, which takes none itself, so each size costs memory permanently.
 fn add(head: &mut Vec<u8>, bytes: &[u8]) -> Result<(), AllocError>
     ensures { OnOk result (head.new.items ≡ head.old.items ++ bytes.now) }
 {
@@ -113,7 +114,7 @@ fn add(head: &mut Vec<u8>, bytes: &[u8]) -> Result<(), AllocError>
 }
 
 /// The line in which at most 1024 connections wait for workers, which take them from its end in their order. All listeners of a
-/// balancer hand on to one line. It takes all its memory here; the error is want of it.
+/// balancer hand on to one line. It takes all its memory here; the only error is out of memory.
 pub fn waiting_line<S: Drop>(
     alloc: Global,
 ) -> Result<(Sender<Arrival<S>>, Receiver<Arrival<S>>), AllocError> {

@@ -37,21 +37,21 @@ struct Watch {
     next: Next,
 }
 
-/// Accepts connections for a frontend until `stop` is set, or until no worker is left, and hands each on to the workers once these may
-/// judge its head: it is whole or can't become one, its client has ended or was silent for too long, or reading failed.
+/// Accepts connections for a frontend until `stop` is set or no worker is left. Each goes to the workers once they may judge its
+/// head: it is whole or can't become one, its client ended or was silent for too long, or reading failed.
 ///
-/// What a client sends with its connection is read at once, so most connections are handed on as they come. Others wait in the lobby,
-/// where they cost no worker and hold no other up: up to `rules.most_guests`, of which the one that was silent for longest leaves where
-/// one more comes. A client may be silent for as long as `rules.silence` says, which each byte begins anew; one that was silent for longer
-/// is told to the worker as a read that timed out. What the listener accepts has to be set not to block, since a read that waits would
-/// hold up all others, and keeps the limits on reads and writes that it came with. Nobody waits for room in the line: where it is full
-/// nothing is accepted, and heads that become whole are kept.
+/// What a client sends with its connection is read at once, so most connections are handed on as they come. One whose head came with
+/// it costs this thread two system calls, the accept and a read. Others wait in the lobby, where they cost no worker and hold no
+/// other up. It holds up to `rules.most_guests`; if one more comes, the one silent for longest leaves. A client may be silent for
+/// `rules.silence`, which each byte begins again. One that was silent for longer goes to the worker as a read that timed out. While
+/// the line is full nothing is accepted, and heads that become whole are kept.
 ///
-/// A connection whose head came with it costs this thread two calls of the system, the accept and a read.
+/// The listener's connections have to be set not to block, since a read that waits would hold up all others. They keep the limits on
+/// reads and writes that they came with.
 ///
-/// At a stop, which is seen within 100 ms, the listener is closed first. Guests have their limit as before; those of a frontend without a
-/// limit are closed without an answer. Then the end of the line is let go, so that workers end behind the last connection. The error
-/// is the system's or want of memory, where gathering can't begin.
+/// At a stop, seen within 100 ms, the listener is closed first. Guests keep their limit; those of a frontend without one are closed
+/// without an answer. Then the end of the line is let go, so that workers end after the last connection. The error is the system's or
+/// out of memory, where gathering can't begin.
 pub fn gather_until_stopped<R, L>(
     rt: &R,
     alloc: Global,
@@ -107,7 +107,7 @@ impl Watch {
         )
     }
 
-    /// Waits for guests, and for the listener where it still `accepts`, but for 100 ms at most. Guests that may go are handed on. Gives the
+    /// Waits at most 100 ms for guests, and for the listener where it still `accepts`. Guests that may go are handed on. Gives the
     /// moment.
     fn hear_guests<R, S>(
         &mut self,
@@ -198,8 +198,8 @@ fn rest<R: Clock>(rt: &R) {
     thread::sleep(rt, Duration::from_millis(REST_MILLIS));
 }
 
-/// Rests where so many connections wait in the line that workers have enough to do. What comes meanwhile would have to wait behind these
-/// anyway, and a rest gathers it, so that it costs fewer calls of the system and takes the workers' processors less often. Tells whether
+/// Rests where so many connections wait in the line that workers have enough to do. What comes meanwhile would have to wait after
+/// these anyway. A rest gathers it, so that it costs fewer system calls and takes the workers' processors less often. Returns whether
 /// it rested.
 fn rest_while_many_wait<R: Clock>(rt: &R, waiting: usize) -> bool {
     let rests = waiting >= MANY_WAITING;

@@ -6,8 +6,8 @@ use http_relay_head::HEAD_ROOM;
 use http_relay_wire::WireFault;
 use std::io::{ErrorKind, Read};
 
-/// How often a guest is read at most where it is heard of. A head has no more bytes, and a read that gives none is the last but for one
-/// that a signal cuts off.
+/// How often a guest is read at most where it is heard of. A head has no more bytes, and a read that gives none is the last, except
+/// one that a signal cuts off.
 const MOST_READS: u32 = 20_000;
 
 /// A connection whose head isn't whole yet.

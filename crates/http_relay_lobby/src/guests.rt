@@ -3,7 +3,7 @@ use lru::LruCache;
 use std::alloc::{AllocError, Global};
 use std::num::NonZeroUsize;
 
-/// Who leaves where a guest is let in.
+/// The connection that leaves where a guest is let in.
 pub(crate) enum Leaver<S> {
     /// The one that wasn't heard of for longest, since there are too many.
     Oldest(Guest<S>),
@@ -19,7 +19,7 @@ pub(crate) struct Guests<S: Drop> {
 }
 
 impl<S: Drop> Guests<S> {
-    /// None yet, and room for so many, but for one at least.
+    /// None yet, and room for so many, at least for one.
     pub(crate) fn new(alloc: Global, most: usize) -> Result<Self, AllocError> {
         let most = NonZeroUsize::new(most).unwrap_or(NonZeroUsize::MIN);
         Ok(Guests {
@@ -31,7 +31,7 @@ impl<S: Drop> Guests<S> {
         self.by_number.len()
     }
 
-    /// Lets a guest in that was just heard of, and tells who leaves for it.
+    /// Lets a guest in that was just heard of, and gives the one that leaves for it.
     pub(crate) fn let_in(&mut self, number: usize, guest: Guest<S>) -> Option<Leaver<S>> {
         match self.by_number.push(number, guest) {
             Ok(None) => None,

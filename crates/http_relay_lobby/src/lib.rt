@@ -1,11 +1,13 @@
 //! The lobby: where clients' connections wait until their heads are there, so that a slow client costs no worker.
 //!
-//! A listener's thread accepts connections, reads what came with each, and hands it on to the workers with the bytes that were read. One
-//! whose head isn't whole becomes a guest: the thread waits for all guests and for the listener at once, and no read of it blocks.
+//! A listener's thread accepts connections, reads what came with each, and hands it on to the workers with the bytes that were read.
+//! One whose head isn't whole becomes a guest: the thread waits for all guests and for the listener at once, and no read of it
+//! blocks.
 //!
-//! Promised: an `Arrival` has the stream that was accepted, the client's address and the listener's frontend, and at most 16,384 bytes in
-//! front of what the stream still has; a `Search` for the end of a head goes on where it ended, and ends as if it had seen all bytes at
-//! once. What the system accepts, reports and reads, and when, no clause says; that is tested. Start at `gather_until_stopped`.
+//! Promised: an `Arrival` has the stream that was accepted, the client's address and the listener's frontend, and at most 16,384
+//! bytes in front of what the stream still has. A `Search` for the end of a head goes on where it ended, and ends as if it had seen
+//! all bytes at once. What the system accepts, reports and reads, and when, no clause says; that is tested. Start at
+//! `gather_until_stopped`.
 #![tactic(auto)]
 
 mod arrival;

@@ -40,7 +40,7 @@ impl<S: Drop> Line<S> {
 }
 
 impl<S: Read + Write + Drop> Line<S> {
-    /// Hands the connection on, behind those that are kept. One that there is no memory for is refused.
+    /// Hands the connection on, after those that are kept. One that there is no memory for is refused.
     pub(crate) fn put<R: Wait>(&mut self, rt: &R, arrival: Arrival<S>) {
         if !self.kept.is_empty() {
             self.keep(arrival);

@@ -19,11 +19,11 @@ use std::sync::Wait;
 /// The most connections that are accepted in one go, so that guests are heard of meanwhile.
 const MOST_ACCEPTED: u32 = 64;
 
-/// How many guests are let go at once where no more files can be opened. With the rest behind that these are up to 1,600 a second.
+/// How many guests are let go at once where no more files can be opened. With the rest after that these are up to 1,600 a second.
 const LET_GO: u32 = 16;
 
-/// How many connections may stand in the lobby of a `bind`: more than the 10,000 idle ones that have to, of which each takes one of the
-/// process's open files and some 300 bytes.
+/// The most clients of a `bind` that may be connected before their head is whole, idle ones among them. Each takes one of
+/// the process's open files and some 300 bytes.
 pub const MOST_GUESTS: usize = 16_384;
 
 /// The number under which the system reports the listener. No guest has it.
@@ -36,7 +36,7 @@ pub struct Rules {
     pub frontend: usize,
     /// How many milliseconds a client may be silent. Without a number, and at 0, there is no limit.
     pub silence: Option<u32>,
-    /// How many connections may stand in the lobby, but for one at least.
+    /// How many connections may be in the lobby; at least one may.
     pub most_guests: usize,
 }
 
@@ -47,7 +47,7 @@ pub(crate) enum Next {
     Idle,
     /// At once, since somebody may wait.
     More,
-    /// The same, behind a rest.
+    /// The same, after a rest.
     Rest,
 }
 
@@ -86,7 +86,7 @@ impl<S: Read + Write + OpenStream + AsRawFd + Drop> Lobby<S> {
         self.guests.len() == 0 && self.newcomers.is_empty() && self.line.is_clear()
     }
 
-    /// How many milliseconds it is until a guest has been silent for too long, but for so many at most.
+    /// How many milliseconds it is until a guest has been silent for too long, limited to so many.
     pub(crate) fn time_left(&self, now: Option<u64>, most: u64) -> u64 {
         let Some(limit) = self.limit() else {
             return most;
@@ -157,8 +157,8 @@ impl<S: Read + Write + OpenStream + AsRawFd + Drop> Lobby<S> {
         }
     }
 
-    /// Makes the newcomers guests. Where some time has `passed` since they came, each is read once more before: most heads are there then,
-    /// and to have a connection watched, and then no longer, costs two calls of the system.
+    /// Makes the newcomers guests. Where some time has `passed` since they came, each is read once more before. Most heads are there
+    /// then, and to have a connection watched, and then no longer, costs two system calls.
     pub(crate) fn settle<R: Wait>(
         &mut self,
         rt: &R,
@@ -198,8 +198,8 @@ impl<S: Read + Write + OpenStream + AsRawFd + Drop> Lobby<S> {
         }
     }
 
-    /// Lets a guest in that was just heard of. Where there are too many the oldest one goes to a worker, as one that was silent for too
-    /// long.
+    /// Lets a guest in that was just heard of. Where there are too many the oldest one goes to a worker, as one that was silent for
+    /// too long.
     fn let_in<R: Wait>(&mut self, rt: &R, registry: &Registry, number: usize, guest: Guest<S>) {
         match self.guests.let_in(number, guest) {
             None => {}

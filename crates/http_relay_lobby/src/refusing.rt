@@ -2,8 +2,8 @@ use http_relay_serve::{Cause, answer};
 use http_relay_wire::SocketWire;
 use std::io::{Read, Write};
 
-/// Tells a client that there is no memory for its head, and closes its connection. It doesn't wait for the client: nothing was written to
-/// the stream before, so its buffer has room for the answer.
+/// Answers a client that there is no memory for its head, and closes its connection. It doesn't wait for the client: nothing was
+/// written to the stream before, so its buffer has room for the answer.
 pub(crate) fn refuse<S: Read + Write + Drop>(stream: S) {
     let _ = answer(&mut SocketWire::new(stream), Cause::HeadMemory);
 }

@@ -7,22 +7,22 @@ ghost use Rattle.http_relay_lobby.specs.HeadEnds.{is_control, at_line_feed, at_r
 pub enum Search {
     /// Before the first line that isn't empty.
     Before,
-    /// Behind the carriage return of an empty line there.
+    /// After the carriage return of an empty line there.
     BeforeReturn,
     /// In a line.
     Line,
-    /// Behind the carriage return of a line.
+    /// After the carriage return of a line.
     LineReturn,
     /// At the beginning of a line that isn't the first.
     Start,
-    /// Behind a carriage return there.
+    /// After a carriage return there.
     StartReturn,
-    /// Behind the end of the head, or behind a byte that no head has there.
+    /// After the end of the head, or after a byte that no head has there.
     Found,
 }
 
 impl Search {
-    /// The search behind these bytes more.
+    /// The search after these bytes more.
     pub fn behind(self, bytes: &[u8]) -> Self
         ensures { result ≡ fold search_behind self bytes.now }
     {

@@ -12,7 +12,7 @@ pub enum Cause {
     HeadTooLarge,
     /// What the client sent is no head, or one that no server may see.
     BadHead,
-    /// The head tells the length of its body in two ways.
+    /// The head gives the length of its body in two ways.
     BothLengths,
     /// The client ended inside its head.
     HeadCutShort,

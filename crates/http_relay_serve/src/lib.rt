@@ -1,9 +1,9 @@
 //! One request of a client, from its head to the last byte that the client gets.
 //!
-//! Promised: `serve_one` reads a head, asks the backend that takes it for a server with the request that the configuration makes of
-//! the head, visits that server and no other, and answers the client by itself where there is a `Cause` for that. The outcome has its
-//! cause; a slot is got at most once and given back, whatever failed, before an answer of the relay's own goes out. Nothing is
-//! allocated behind the dial. What the configuration says is told by a `Routing`. Start at `serve_one`, whose words are in
+//! Promised: `serve_one` reads a head, and asks the backend that takes it for a server, with the request that the configuration makes
+//! of the head. It visits that server and no other, and answers the client by itself where there is a `Cause` for that. The outcome
+//! has its cause. A slot is got at most once and given back, whatever failed, before an answer of the relay's own goes out. Nothing
+//! is allocated after the dial. A `Routing` gives what the configuration says. Start at `serve_one`, whose words are in
 //! `specs/Serves.antt`; which fault gives which outcome is in `specs/Outcomes.antt`, the answers' bytes are in `specs/Causes.antt`.
 #![tactic(auto)]
 

@@ -13,11 +13,11 @@ use http_relay_wire::WireFault;
 pub enum DropCause {
     /// The client's wire broke in the head.
     HeadBroken,
-    /// The client couldn't be told to go on.
+    /// `100 Continue` couldn't be sent to the client.
     ContinueNotTaken(WireFault),
     /// A read from the client failed in the body.
     BodyNotRead(WireFault),
-    /// A read from the server failed behind the first byte of its response.
+    /// A read from the server failed after the first byte of its response.
     ResponseCutShort(WireFault),
     /// The client didn't take the response.
     ResponseNotTaken(WireFault),

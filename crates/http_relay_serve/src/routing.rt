@@ -15,13 +15,13 @@ pub trait Routing {
     /// What is said of requests.
     ghost routes: { Self → Routes };
 
-    /// The backend that takes the head, if one does. It takes no memory.
+    /// The backend that takes the head, if one does. It allocates nothing.
     fn backend(&self, head: &Head<'_>) -> Option<usize>
         ensures backend { result ≡ (routes self.now).backend head.now }
         ensures within { IfSome result (λ backend. backend < backends self.now) };
 
-    /// What the backend is asked for the head, if it came at this moment: the pin's key, the servers of the rules that match, and
-    /// the pin's cost. The error is want of memory.
+    /// What the backend is asked for the head, if it came at this moment: the pin's key, the servers of the rules that match, and the
+    /// pin's cost. The only error is out of memory.
     fn request(
         &self,
         alloc: Global,

@@ -9,7 +9,6 @@ use http_relay_wire::Script;
 use lb_desk_model::ServedAs;
 use lb_desk_ports::{Asked, Refused, ScriptedOpening};
 use lb_types::ServerId;
-use std::test::Fail;
 
 const POST: &[u8] = b"POST / HTTP/1.1\r\nContent-Length: 2\r\n\r\nhi";
 
@@ -178,7 +177,7 @@ const ROWS: &[Row] = &[
 
 // The connection that was got is given back in each case.
 #[test]
-fn requests_end_as_their_wires_say(rt: HostRuntime) -> Result<(), Fail> {
+fn requests_end_as_their_wires_say(rt: HostRuntime) {
     for (input, client, server, outcome, got) in ROWS {
         let call = Call {
             is_taken: true,
@@ -194,13 +193,12 @@ fn requests_end_as_their_wires_say(rt: HostRuntime) -> Result<(), Fail> {
             sent: None,
             faults: None,
         };
-        assert!(rt; is_owed(&rt, rt.alloc(), &call, &owed)?, "{outcome:?}");
+        assert!(rt; is_owed(&rt, rt.alloc(), &call, &owed), "{outcome:?}");
     }
-    Ok(())
 }
 
-// Whether the backend takes the head, what it answers, the openings of its connections, which of its calls is refused, the cause, and what
-// the client gets.
+// Whether the backend takes the head, what it answers, the openings of its connections, which of its calls is refused, the cause, and
+// what the client gets.
 type Unconnected = (
     bool,
     Asked,
@@ -212,7 +210,7 @@ type Unconnected = (
 
 // A good request for which there is no connection.
 #[test]
-fn requests_without_a_connection_are_answered(rt: HostRuntime) -> Result<(), Fail> {
+fn requests_without_a_connection_are_answered(rt: HostRuntime) {
     let other = Asked::Served(ServerId::new(SERVER + 1), ServedAs::Made);
     let rows: &[Unconnected] = &[
         (
@@ -304,7 +302,6 @@ fn requests_without_a_connection_are_answered(rt: HostRuntime) -> Result<(), Fai
             sent: if *is_taken { None } else { Some(b"") },
             faults: None,
         };
-        assert!(rt; is_owed(&rt, rt.alloc(), &call, &owed)?, "{cause:?}");
+        assert!(rt; is_owed(&rt, rt.alloc(), &call, &owed), "{cause:?}");
     }
-    Ok(())
 }

@@ -4,8 +4,8 @@ use crate::site::{
 };
 use http_relay_serve::{Cause, DropCause, Outcome};
 use http_relay_wire::{FaultCounts, Script, WireFault};
-use std::alloc::{AllocError, Global};
-use std::test::Fail;
+use std::alloc::Global;
+use std::process::Abort;
 
 /// A chunked upload: 99 bytes of head and 27 of body.
 const UPLOAD: &[u8] =
@@ -18,8 +18,8 @@ const SENT: &[u8] =
 /// The bytes of the upload's head.
 const HEAD: usize = 99;
 
-// How many bytes the server gets where so many come of the upload: none before its head is whole, then that, and of the body the
-// lines that are whole and the data that came. The body's lines end at its bytes 4, 22, 25 and 27, its data at 20.
+// How many bytes the server gets where so many come of the upload. It gets none before its head is whole, then the head, and of the
+// body the lines that are whole and the data that came. The body's lines end at its bytes 4, 22, 25 and 27, its data at 20.
 fn sent_of(came: usize) -> usize {
     match came {
         0..99 => 0,
@@ -83,9 +83,9 @@ const fn one_write(fault: WireFault) -> FaultCounts {
     }
 }
 
-// The client ends, times out or breaks behind each of its bytes.
+// The client ends, times out or breaks after each of its bytes.
 #[test]
-fn an_upload_is_cut_at_every_byte(rt: HostRuntime) -> Result<(), Fail> {
+fn an_upload_is_cut_at_every_byte(rt: HostRuntime) {
     for fault in [None, Some(LATE), Some(BROKEN)] {
         for came in 0..=UPLOAD.len() {
             let client = match fault {
@@ -118,16 +118,15 @@ fn an_upload_is_cut_at_every_byte(rt: HostRuntime) -> Result<(), Fail> {
                 server: ANSWERS,
             };
             assert!(rt;
-                is_owed(&rt, rt.alloc(), &call, &owed)?,
+                is_owed(&rt, rt.alloc(), &call, &owed),
                 "{fault:?} behind byte {came}"
             );
         }
     }
-    Ok(())
 }
 
 // Whether the upload is relayed that comes in these pieces.
-fn is_relayed<R>(rt: &R, alloc: Global, pieces: &[usize]) -> Result<bool, AllocError> {
+fn is_relayed<R: Abort>(rt: &R, alloc: Global, pieces: &[usize]) -> bool {
     let client = Script {
         pieces,
         ..Script::SMOOTH
@@ -150,11 +149,10 @@ fn is_relayed<R>(rt: &R, alloc: Global, pieces: &[usize]) -> Result<bool, AllocE
 }
 
 #[test]
-fn an_upload_comes_in_two_pieces_cut_at_every_byte(rt: HostRuntime) -> Result<(), Fail> {
+fn an_upload_comes_in_two_pieces_cut_at_every_byte(rt: HostRuntime) {
     for at in 1..UPLOAD.len() {
-        assert!(rt; is_relayed(&rt, rt.alloc(), &[at, 1000])?, "cut at {at}");
+        assert!(rt; is_relayed(&rt, rt.alloc(), &[at, 1000]), "cut at {at}");
     }
-    Ok(())
 }
 
 // What is owed where the server takes so many bytes and then fails so.
@@ -176,7 +174,7 @@ fn owed_behind(taken: usize, fault: WireFault) -> (Outcome, &'static [u8], Fault
 
 // The request goes out byte by byte, in 104 writes: before the failing one as many bytes went out as there were writes.
 #[test]
-fn each_write_to_the_server_fails_in_turn(rt: HostRuntime) -> Result<(), Fail> {
+fn each_write_to_the_server_fails_in_turn(rt: HostRuntime) {
     for fault in [LATE, BROKEN] {
         for taken in 0..=SENT.len() {
             let server = Script {
@@ -201,10 +199,9 @@ fn each_write_to_the_server_fails_in_turn(rt: HostRuntime) -> Result<(), Fail> {
                 server: Ok((RESPONSE, server)),
             };
             assert!(rt;
-                is_owed(&rt, rt.alloc(), &call, &owed)?,
+                is_owed(&rt, rt.alloc(), &call, &owed),
                 "{fault:?} behind write {taken}"
             );
         }
     }
-    Ok(())
 }

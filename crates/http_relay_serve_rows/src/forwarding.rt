@@ -1,10 +1,9 @@
 use http_relay_forward::{BodyKind, body_kind, expects_continue, rewrite};
 use lb_acl::{Field, Head, Version};
 use std::net::Ipv4Addr;
-use std::test::Fail;
 
-// A version, the fields, whether the client's address is added, the forwarded form, the body, and whether the client asks for leave to send
-// a body that has bytes.
+// A version, the fields, whether the client's address is added, the forwarded form, the body, and whether the client asks for leave
+// to send a body that has bytes.
 type Row<'a> = (
     Version,
     &'a [Field<'a>],
@@ -14,10 +13,11 @@ type Row<'a> = (
     bool,
 );
 
-// The values have blanks round them, which the reading of a head takes away. Fields of one connection are not passed on, the address of
-// the client is added where it is asked for, equal lengths go out as they came, and only the whole value of `Expect` asks for leave.
+// The values have blanks round them, which the reading of a head takes away. Fields of one connection are not passed on, and the
+// address of the client is added where it is asked for. Equal lengths go out as they came, and only the whole value of `Expect` asks
+// for leave.
 #[test]
-fn heads_and_their_forwarded_form(rt: HostRuntime) -> Result<(), Fail> {
+fn heads_and_their_forwarded_form(rt: HostRuntime) {
     let rows: &[Row<'_>] = &[
         (
             Version::Http11,
@@ -82,7 +82,7 @@ fn heads_and_their_forwarded_form(rt: HostRuntime) -> Result<(), Fail> {
     ];
     for (version, fields, is_tagged, sent, kind, asks) in rows {
         let head = Head::new(b"post", b"*", *version, fields, Ipv4Addr::new(10, 0, 0, 7));
-        let text = rewrite(rt.alloc(), &head, *is_tagged)?;
+        let text = rewrite(rt.alloc(), &head, *is_tagged).expect(&rt, "memory");
         assert!(rt;
             text.as_slice() == *sent
                 && body_kind(&head) == Ok(*kind)
@@ -93,5 +93,4 @@ fn heads_and_their_forwarded_form(rt: HostRuntime) -> Result<(), Fail> {
             "{sent:?}"
         );
     }
-    Ok(())
 }

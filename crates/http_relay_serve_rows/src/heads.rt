@@ -3,7 +3,7 @@ use http_relay_head::{HEAD_ROOM, HeadFault, read_head};
 use http_relay_wire::{Script, ScriptedWire};
 use std::alloc::{AllocError, Global};
 use std::net::Ipv4Addr;
-use std::test::Fail;
+use std::process::Abort;
 
 type Verdict = Result<BodyKind, HeadFault>;
 
@@ -21,7 +21,7 @@ const CHUNKS: Verdict = Ok(BodyKind::Chunked);
 
 const THREE: Verdict = Ok(BodyKind::Length(3));
 
-// What a client that sends these bytes in these pieces and ends is told.
+// The verdict on a client that sends these bytes in these pieces and ends.
 fn verdict(alloc: Global, bytes: &[u8], pieces: &[usize]) -> Verdict {
     let script = Script {
         pieces,
@@ -33,29 +33,42 @@ fn verdict(alloc: Global, bytes: &[u8], pieces: &[usize]) -> Verdict {
     Ok(head.body_kind())
 }
 
-// Whether this is told of a front, so many times the middle, and the end, in whatever pieces they come.
-fn is_told(
-    alloc: Global,
+// Whether this is the verdict on a front, so many times the middle, and the end, in whatever pieces they come.
+fn is_told<R: AllocGlobal + Abort>(
+    rt: &R,
     front: &[u8],
     (middle, times): (&[u8], usize),
     end: &[u8],
     expected: Verdict,
-) -> Result<bool, AllocError> {
-    let mut bytes = Vec::from_slice(alloc, front)?;
+) -> bool {
+    let mut bytes = Vec::new(rt.alloc());
+    repeat(front, middle, times, end, &mut bytes).expect(rt, "memory");
+    PIECES
+        .iter()
+        .all(|pieces| verdict(rt.alloc(), &bytes, *pieces) == expected)
+}
+
+// The pieces in which heads come.
+const PIECES: &[&[usize]] = &[&[], &[1], &[40, 7]];
+
+// Adds a front, so many times the middle, and the end.
+fn repeat(
+    front: &[u8],
+    middle: &[u8],
+    times: usize,
+    end: &[u8],
+    bytes: &mut Vec<u8>,
+) -> Result<(), AllocError> {
+    bytes.extend_from_slice(front)?;
     for _ in 0..times {
         bytes.extend_from_slice(middle)?;
     }
-    bytes.extend_from_slice(end)?;
-    Ok(
-        verdict(alloc, &bytes, &[]) == expected
-            && verdict(alloc, &bytes, &[1]) == expected
-            && verdict(alloc, &bytes, &[40, 7]) == expected,
-    )
+    bytes.extend_from_slice(end)
 }
 
 const POST: &[u8] = b"POST /p HTTP/1.1\r\n";
 
-// Lines of a head of HTTP/1.1 that tell of no body.
+// Lines of a head of HTTP/1.1 that say nothing of a body.
 const NO_BODY: &[(&[u8], Verdict)] = &[
     (b"", NONE),
     (b"Host: x\r\n", NONE),
@@ -88,7 +101,7 @@ const LENGTHS_AND_CHUNKS: &[(&[u8], Verdict)] = &[
     (b"transfer-encoding:\tCHUNKED \r\n", CHUNKS),
 ];
 
-// Two lengths, or a length beside chunks. A length that is none is told first.
+// Two lengths, or a length beside chunks. A bad length is reported first.
 const BESIDE_A_LENGTH: &[(&[u8], Verdict)] = &[
     (b"Content-Length: 3\r\nContent-Length: 4\r\n", BOTH),
     (
@@ -178,7 +191,7 @@ const OTHER_BYTES: &[(&[u8], Verdict)] = &[
     (b"\xffX: 1\r\n", BAD),
 ];
 
-// Whole heads whose versions and bodies are told apart.
+// Whole heads with different versions and bodies.
 const VERSIONS_AND_BODIES: &[(&[u8], Verdict)] = &[
     (b"GET / HTTP/1.1\r\n\r\n", NONE),
     (b"GET / HTTP/1.0\n\n", NONE),
@@ -229,7 +242,7 @@ const CUT_HEADS: &[(&[u8], Verdict)] = &[
     (b"GET / HTTP/1.1\r\nHost: x\r\n\r", CUT),
 ];
 
-// What stands before and behind each row of a table.
+// What comes before and after each row of a table.
 const TABLES: &[(&[u8], &[u8], &[(&[u8], Verdict)])] = &[
     (POST, b"\r\n", NO_BODY),
     (POST, b"\r\n", LENGTHS_AND_CHUNKS),
@@ -245,14 +258,12 @@ const TABLES: &[(&[u8], &[u8], &[(&[u8], Verdict)])] = &[
 ];
 
 #[test]
-fn heads_and_their_verdicts(rt: HostRuntime) -> Result<(), Fail> {
+fn heads_and_their_verdicts(rt: HostRuntime) {
     for (front, end, rows) in TABLES {
         for (row, expected) in *rows {
-            let told = is_told(rt.alloc(), front, (row, 1), end, *expected)?;
-            assert!(rt; told, "{row:?}");
+            assert!(rt; is_told(&rt, front, (row, 1), end, *expected), "{row:?}");
         }
     }
-    Ok(())
 }
 
 const GET: &[u8] = b"GET / HTTP/1.1\r\nXxx: ";
@@ -267,8 +278,8 @@ const REPEATED: &[Repeated] = &[
     (GET, b"x", 39975, b"\r\n\r\n", LARGE),
     (POST, b"X: 1\r\n", 100, b"\r\n", NONE),
     (POST, b"X: 1\r\n", 101, b"\r\n", LARGE),
-    // Heads with two faults. Of the parser, fields beyond the limit are 90 and any other error 91, whichever it meets first; what the rules
-    // refuse is judged in a head that was parsed.
+    // Heads with two faults. Of the parser's faults, fields beyond the limit are 90 and any other error 91, whichever it meets first.
+    // What the rules refuse is judged in a head that was parsed.
     (POST, b"X: 1\r\n", 101, b"Bad Name: 1\r\n\r\n", LARGE),
     (POST, b"X: 1\r\n", 101, b"Host\r\n\r\n", LARGE),
     (POST, b"X: 1\r\n", 101, b"X: a\0b\r\n\r\n", LARGE),
@@ -333,10 +344,11 @@ const REPEATED: &[Repeated] = &[
 ];
 
 #[test]
-fn heads_at_the_limits_and_of_two_faults(rt: HostRuntime) -> Result<(), Fail> {
+fn heads_at_the_limits_and_of_two_faults(rt: HostRuntime) {
     for (front, middle, times, end, expected) in REPEATED {
-        let told = is_told(rt.alloc(), front, (middle, *times), end, *expected)?;
-        assert!(rt; told, "{front:?}, {times} times, {end:?}");
+        assert!(rt;
+            is_told(&rt, front, (middle, *times), end, *expected),
+            "{front:?}, {times} times, {end:?}"
+        );
     }
-    Ok(())
 }

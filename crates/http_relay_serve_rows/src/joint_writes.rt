@@ -20,7 +20,7 @@ fn server(alloc: Global, most: usize, failing: u64) -> ScriptedWire<'static> {
     ScriptedWire::new(alloc, RESPONSE, script)
 }
 
-// The body's kind, what came behind the head, what comes later, and what goes out with the head.
+// The body's kind, what came after the head, what comes later, and what goes out with the head.
 type Row = (BodyKind, &'static [u8], &'static [u8], &'static [u8]);
 
 const ROWS: &[Row] = &[
@@ -60,7 +60,7 @@ const ROWS: &[Row] = &[
 ];
 
 // What went out in the first write, where the server takes all at once: all of it is there before the second fails, and nothing
-// before the first does. What came behind the head is told apart from what the client sends later.
+// before the first does. What came after the head is distinguished from what the client sends later.
 #[test]
 fn a_head_and_what_came_of_its_body_go_out_in_one_write(rt: HostRuntime) {
     for (kind, behind, later, together) in ROWS {
@@ -92,7 +92,8 @@ fn second_fails(taken: usize, all: usize) -> Option<SendFault> {
     None
 }
 
-// Wherever the first write ends: what goes out is whole, and a fault in the next write is the head's before its end, and the body's behind.
+// Wherever the first write ends: what goes out is whole, and a fault in the next write is the head's before its end, and the body's
+// after it.
 #[test]
 fn a_write_may_end_anywhere_in_head_and_body(rt: HostRuntime) {
     for (kind, body) in [
@@ -124,8 +125,8 @@ fn a_write_may_end_anywhere_in_head_and_body(rt: HostRuntime) {
     }
 }
 
-// The kind of the body, what came behind the head, what comes later, whether the client waits to be told to go on, what of the request may go
-// out with the dial, and its body.
+// The kind of the body, what came after the head, what comes later, whether the client waits for `100 Continue`, what of the request
+// may go out with the dial, and its body.
 type OpeningRow = (
     BodyKind,
     &'static [u8],
@@ -153,14 +154,14 @@ const OPENINGS: &[OpeningRow] = &[
 
 // However much of the opening was taken with the dial, the server gets the same.
 #[test]
-fn what_was_taken_with_the_dial_is_not_sent_again(rt: HostRuntime) -> Result<(), WireFault> {
+fn what_was_taken_with_the_dial_is_not_sent_again(rt: HostRuntime) {
     for (kind, behind, later, expects_continue, opening, body) in OPENINGS {
         let request = Outgoing::new(HEAD, *kind, behind, *expects_continue);
         assert_eq!(rt; request.opening(), *opening);
         for taken in 0..=opening.len() {
             let mut client = ScriptedWire::new(rt.alloc(), later, Script::SMOOTH);
             let mut server = server(rt.alloc(), usize::MAX, u64::MAX);
-            write_all(&mut server, &opening[..taken])?;
+            write_all(&mut server, &opening[..taken]).expect(&rt, "a server that takes");
             let answer = exchange(&request, taken, &mut client, &mut server);
             assert!(rt;
                 answer == Ok(RESPONSE.len() as u64)
@@ -169,5 +170,4 @@ fn what_was_taken_with_the_dial_is_not_sent_again(rt: HostRuntime) -> Result<(),
             );
         }
     }
-    Ok(())
 }

@@ -6,7 +6,7 @@ use lb_types::ServerId;
 
 const FULL: ScriptedOpening = ScriptedOpening::Full;
 
-// The limit, the openings, how the wait ends, and the moments that were told.
+// The limit, the openings, how the wait ends, and the moments that the clock gave.
 type Row = (
     Option<u32>,
     &'static [ScriptedOpening],

@@ -15,6 +15,7 @@ use lb_desk_ports::{
 use lb_types::{Moment, ServerId};
 use std::alloc::{AllocError, Global};
 use std::net::Ipv4Addr;
+use std::process::Abort;
 use std::slice;
 
 /// What the server sends where nothing fails.
@@ -123,9 +124,9 @@ pub(crate) struct Owed<'a> {
     pub(crate) outcome: Outcome,
     /// What the client gets.
     pub(crate) got: &'a [u8],
-    /// What the server gets, where that is told: nothing where nobody is asked.
+    /// What the server gets, where that is stated: nothing where no server is asked.
     pub(crate) sent: Option<&'a [u8]>,
-    /// How often the client's wire and the server's have failed, where that is told.
+    /// How often the client's wire and the server's have failed, where that is stated.
     pub(crate) faults: Option<(FaultCounts, FaultCounts)>,
 }
 
@@ -170,16 +171,13 @@ fn target() -> Target {
     }
 }
 
-/// Serves the request, with a clock that stands at 7 ms, for a client at 10.0.0.7: whether it ends as is owed, and as many connections were
-/// given back as were opened.
-pub(crate) fn is_owed<R>(
-    rt: &R,
-    alloc: Global,
-    call: &Call<'_>,
-    owed: &Owed<'_>,
-) -> Result<bool, AllocError> {
+/// Serves the request, with a clock that stands at 7 ms, for a client at 10.0.0.7: whether it ends as is owed, and as many
+/// connections were given back as were opened.
+pub(crate) fn is_owed<R: Abort>(rt: &R, alloc: Global, call: &Call<'_>, owed: &Owed<'_>) -> bool {
     let mut ports = Vec::new(alloc);
-    ports.push(ScriptedPort::new(alloc, &call.port))?;
+    ports
+        .push(ScriptedPort::new(alloc, &call.port))
+        .expect(rt, "memory");
     let pattern = StickOn {
         sample: KeySample::Source,
         table: TableType::Ip,
@@ -210,7 +208,7 @@ pub(crate) fn is_owed<R>(
         &mut room,
     );
     let talks = worker.dialer.talks().unwrap_or(&[]);
-    Ok(outcome == owed.outcome && is_as_owed(owed, &client.wire, talks, &ports))
+    outcome == owed.outcome && is_as_owed(owed, &client.wire, talks, &ports)
 }
 
 // Whether client, server and backend have seen what is owed.

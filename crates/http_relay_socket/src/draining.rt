@@ -42,7 +42,7 @@ pub fn drain<W: Wire>(wire: &mut W, room: &mut [u8]) -> Drained
     Drained::Full
 }
 
-/// Ends a stream so that its peer gets all that was sent: ends the own direction first, reads and drops what still comes, at most
+/// Ends a stream so that its peer gets all that was sent. It ends its own direction first, reads and drops what still comes, at most
 /// 65,536 bytes and for at most a second, and closes. A stream that is closed with bytes unread is reset by the system, and the peer
 /// may lose what it hadn't read yet (RFC 9112, section 9.6).
 pub fn end_gently<K: Clock, S: Read + Write + OpenStream + Drop>(

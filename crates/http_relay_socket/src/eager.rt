@@ -2,9 +2,9 @@ use std::io;
 use std::io::{ErrorKind, Read, Write};
 use std::net::OpenStream;
 
-/// A stream that came set not to block. A call is made at once, which costs one call of the system; the first that would have to wait
-/// sets the stream to block, and it and those behind it wait, under the limits that the stream has. So nothing is set for a peer that
-/// takes all that it is sent at once.
+/// A stream that came set not to block. A call is made at once, which costs one system call. The first that would have to wait sets
+/// the stream to block; it and those after it wait, under the limits that the stream has. So nothing is set for a peer that takes all
+/// that it is sent at once.
 #[derive(Debug, Drop)]
 pub struct EagerStream<S> {
     stream: S,

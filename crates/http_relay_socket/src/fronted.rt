@@ -8,12 +8,12 @@ use http_relay_wire::{FaultCounts, Wire, WireFault};
 /// How many reads a fronted wire allows.
 const MOST_READS: u64 = 1 << 62;
 
-/// A wire of which bytes were read before: it gives these first, and then what the wire behind it gives.
+/// A wire of which bytes were read before: it gives these first, and then what the wrapped wire gives.
 #[derive(Debug, Drop)]
 pub struct FrontedWire<'a, W> {
     wire: W,
     front: &'a [u8],
-    // How reading had failed behind the front.
+    // How reading had failed after the front.
     failed: Option<WireFault>,
     has_ended: bool,
     reads_left: u64,
@@ -21,8 +21,8 @@ pub struct FrontedWire<'a, W> {
 }
 
 impl<'a, W: Wire> FrontedWire<'a, W> {
-    /// The wire with these bytes before its own. Where reading had failed behind them, each read there fails so again. 2^62 reads
-    /// may be made. It hasn't failed yet, whatever the wire behind it did.
+    /// The wire with these bytes before its own. Where reading had failed after them, each read there fails so again. 2^62 reads may
+    /// be made. It hasn't failed yet, whatever the wrapped wire did.
     pub fn new(wire: W, front: &'a [u8], failed: Option<WireFault>) -> Self
         ensures reading { ⟦<FrontedWire<'a, W> as Wire>⟧.reading result
             ≡ record { unread = prepend_known front.now (W.reading wire).unread; left = 2 ^ 62; ended = false } }
@@ -39,7 +39,7 @@ impl<'a, W: Wire> FrontedWire<'a, W> {
         }
     }
 
-    /// The wire behind.
+    /// The wrapped wire.
     pub fn wire(&self) -> &W
         ensures unread { (front : List ℕ)
             × ((⟦<FrontedWire<'a, W> as Wire>⟧.reading self.now).unread ≡ prepend_known front (W.reading result.now).unread) }

@@ -15,8 +15,8 @@ pub struct StreamLimits {
 }
 
 impl StreamLimits {
-    /// Sets both limits, which costs two calls of the system. What a listener's stream has, those that it accepts have too. The error is
-    /// the system's.
+    /// Sets both limits, which costs two system calls. What a listener's stream has, those that it accepts have too. The error is the
+    /// system's.
     pub fn set<S: OpenStream>(self, stream: &S) -> io::Result<()> {
         stream.set_read_timeout(limit(self.read))?;
         stream.set_write_timeout(limit(self.write))

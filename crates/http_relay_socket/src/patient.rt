@@ -5,11 +5,11 @@ use std::io::{ErrorKind, Read, Write};
 use std::net::OpenStream;
 use std::time::Duration;
 
-/// How often a call may begin to wait anew.
+/// How often a call may begin to wait again.
 const MOST_WAITS: u64 = 1 << 62;
 
 /// A stream whose reads and writes wait as long as a patience lets them. It sets the stream's limits where they change, which costs a
-/// call of the system each.
+/// system call each.
 #[derive(Debug, Drop)]
 pub struct PatientStream<S, P> {
     stream: S,
@@ -62,7 +62,7 @@ impl<S: OpenStream, P: Patience> PatientStream<S, P> {
     }
 }
 
-// The error that a wire tells as this fault.
+// The error that a wire reports as this fault.
 fn error_of(fault: WireFault) -> io::Error {
     io::Error::from(match fault {
         WireFault::Timeout => ErrorKind::TimedOut,

@@ -34,8 +34,8 @@ fn dialled(
     Ok((near, far))
 }
 
-// What a server gets that is dialled with these bytes, of which the connection takes a beginning and a write the rest, and how many that
-// beginning had. The connection ends then.
+// What a server gets that is dialled with these bytes, of which the connection takes a beginning and a write the rest. Also how many
+// bytes that beginning had. The connection ends then.
 fn opened_with(rt: &HostRuntime, first: &[u8], got: &mut [u8]) -> Result<(usize, usize), Fail> {
     let limits = Limits {
         connect: Some(1000),
@@ -143,8 +143,8 @@ const ANSWERS: &[(usize, bool)] = &[
     (20, false),
 ];
 
-// How many bytes the server is asked with, which then answers so many and ends, before the first read or behind it; and how many this read
-// gives.
+// The server is asked, then answers so many bytes and ends, before the first read or after it. Gives how many bytes it was asked
+// with, and how many this read gives.
 fn answered(
     near: &mut impl Wire,
     far: TcpStream,
@@ -209,8 +209,8 @@ fn end(near: &mut impl Wire, far: &TcpStream) -> Result<(), Fail> {
     Ok(())
 }
 
-// A connection that is given back is closed at once; but one whose server has ended where the dialer is told to close the last, so that
-// the end of an answer can go out before.
+// A connection that is given back is closed at once. One whose server has ended is closed where the dialer is asked to close the
+// last, so that the end of an answer can go out before.
 #[test]
 fn a_server_that_has_ended_is_closed_last(rt: HostRuntime) -> Result<(), Fail> {
     let limits = Limits {

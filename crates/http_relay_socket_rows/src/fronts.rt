@@ -4,7 +4,7 @@ use http_relay_wire::{Script, ScriptedWire, Wire, WireFault, write_all};
 /// What a read answers: how many bytes came, and the first of them.
 type Given = Result<(usize, u8), WireFault>;
 
-/// What was read before, what the wire behind sends, how reading had failed, and what reads of four bytes give.
+/// What was read before, what the wrapped wire sends, how reading had failed, and what reads of four bytes give.
 type Front = (
     &'static [u8],
     &'static [u8],
@@ -54,7 +54,7 @@ fn gives(wire: &mut impl Wire, expected: &[Given]) -> bool {
     true
 }
 
-// The bytes that were read before come first, and alone. Behind them each read fails, or the wire's own bytes come.
+// The bytes that were read before come first, and alone. After them each read fails, or the wire's own bytes come.
 #[test]
 fn what_was_read_before_comes_first(rt: HostRuntime) {
     for (front, behind, failed, expected) in FRONTS {

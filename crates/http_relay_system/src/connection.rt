@@ -9,7 +9,7 @@ use std::io::{ErrorKind, Read, Write};
 use std::net::{Net, SocketAddr, TcpStream};
 use std::os::fd::AsRawFd;
 
-/// How often a wait that a signal cut off begins again, and a call that was told that it needn't wait.
+/// How often a wait that a signal cut off begins again, and a call after a report that it needn't wait.
 const MOST_TRIES: u32 = 64;
 
 /// An address of no family (`AF_UNSPEC`), and how many of its bytes the system reads.
@@ -21,18 +21,21 @@ const NOWHERE_LENGTH: u32 = 16;
 #[derive(Clone, Copy, Debug, PartialEq, Eq)]
 enum End {
     Unknown,
-    /// The system has it, behind what wasn't read.
+    /// The system has it, after what wasn't read.
     Came,
     /// All that came before it was read.
     Reached,
 }
 
-/// A connection to a server. Its socket doesn't block: calls wait by `poll`, which takes the limit as an argument, so that none has to be
-/// set. A connection costs three calls of the system, and two where the server is on this machine and first bytes are sent with the dial; an
-/// answer costs one besides its reads, and the end two. Where the server's end came with
-/// its answer, `poll` tells of both, and no read has to find the end. The connection ends by a reset (RFC 9293,
-/// 3.10.5, ABORT), as HAProxy's connections to servers do: nothing is owed to a server whose answer is there or isn't waited for, and
-/// an end in turn costs both sides more.
+/// A connection to a server. Its socket doesn't block: calls wait by `poll`, which takes the limit as an argument, so that none has
+/// to be set.
+///
+/// A connection costs three system calls, and two where the server is on this machine and first bytes are sent with the dial. An
+/// answer costs one besides its reads, and the end two. Where the server's end came with its answer, `poll` reports both, and no read
+/// has to find the end.
+///
+/// The connection ends by a reset (RFC 9293, 3.10.5, ABORT), as HAProxy's connections to servers do. Nothing is owed to a server
+/// whose answer is there or isn't waited for, and an orderly end costs both sides more.
 #[derive(Debug)]
 pub struct ServerStream {
     stream: TcpStream,
@@ -46,8 +49,8 @@ pub struct ServerStream {
 }
 
 impl ServerStream {
-    /// A connection to the server at this address under these limits, and how many of the first bytes it has taken: where the server is on
-    /// this machine as many as a write takes. The error is the system's, or `TimedOut`.
+    /// A connection to the server at this address under these limits, and how many of the first bytes it has taken. Where the server
+    /// is on this machine that is as many as a write takes. The error is the system's, or `TimedOut`.
     pub fn connect<R: Net>(
         rt: &R,
         address: SocketAddr,
@@ -74,7 +77,8 @@ impl ServerStream {
         Ok((connection, taken))
     }
 
-    /// Has each further write send at once what it is given. A first one does so anyway: nothing that it would be kept for is under way.
+    /// Has each further write send at once what it is given. A first one does so anyway: nothing that it would be kept for is under
+    /// way.
     fn send_at_once(&mut self) -> io::Result<()> {
         if self.has_written && !self.sends_at_once {
             self.stream.set_nodelay(true)?;
@@ -159,9 +163,9 @@ impl Write for ServerStream {
     }
 }
 
-// Writes a beginning of these bytes to a socket that is being connected, and answers how many it took. To write takes the end of the dial for
-// granted, which spares a call that waits for it: on one machine it comes before the system tells that the dial is under way. Where it hasn't come,
-// nothing is taken, and it is waited for.
+// Writes a beginning of these bytes to a socket that is being connected, and answers how many it took. The write assumes that the
+// dial has ended, which spares a call that waits for that. On one machine the end comes before the system reports that the dial is
+// under way. Where it hasn't come, nothing is taken, and it is waited for.
 fn begin(stream: &mut TcpStream, limit: Option<u32>, at_once: &[u8]) -> io::Result<usize>
     ensures { IfOk result (λ count. count ≤ length at_once.now) }
 {
@@ -191,8 +195,8 @@ fn has_failed(reported: i16) -> bool {
     reported & (POLLERR | POLLHUP) != 0
 }
 
-// Waits until the system reports one of these events of the socket, or that it has failed, and gives the report. The error is `TimedOut`
-// where the limit ran out before.
+// Waits until the system reports one of these events of the socket, or that it has failed, and gives the report. The error is
+// `TimedOut` where the limit ran out before.
 fn wait_for(stream: &TcpStream, events: i16, limit: Option<u32>) -> io::Result<i16> {
     let mut asked = [pollfd {
         fd: stream.as_raw_fd(),

@@ -7,9 +7,9 @@ use std::io;
 use std::io::ErrorKind;
 use std::net::{Net, SocketAddr, SocketAddrV4};
 
-/// Connects to servers by sockets. A connection sends at once what it is given, and waits as long as its limits let it. It is closed where
-/// it is given back; but one whose server has ended, to which it is as good as closed, at `close_last`, or where the next one is given
-/// back. So who has a client to tell the end of its answer does that before.
+/// Connects to servers by sockets. A connection sends at once what it is given, and waits as long as its limits let it. It is closed
+/// where it is given back. One whose server has ended, to which it is as good as closed, is closed at `close_last` instead, or where
+/// the next one is given back. So a caller that owes a client the end of its answer sends it before that.
 #[derive(Debug, Default, Drop)]
 pub struct SocketDialer {
     failures: u64,
@@ -28,7 +28,7 @@ impl SocketDialer {
         }
     }
 
-    /// Closes the connection that was given back last, if it isn't closed yet. That costs two calls of the system.
+    /// Closes the connection that was given back last, if it isn't closed yet. That costs two system calls.
     pub fn close_last(&mut self)
         ensures { self.new.failures ≡ self.old.failures }
     {

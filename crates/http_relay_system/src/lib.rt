@@ -1,6 +1,6 @@
 //! The relay's dialer and clock over the system's own.
 //!
-//! Promised: a `SocketDialer` is a `Dialer` whose connections are wires over sockets, and a `SystemClock` a `Clock`; both count and
+//! Promised: a `SocketDialer` is a `Dialer` whose connections are wires over sockets, and a `SystemClock` a `Clock`. Both count and
 //! record what these traits' contracts say, and keep no records. What a socket does and what time it is no clause says. Start at
 //! `SocketDialer`, and for how a connection waits at `ServerStream`.
 #![tactic(auto)]

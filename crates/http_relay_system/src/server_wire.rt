@@ -4,7 +4,7 @@ ghost use Rattle.http_relay_wire.specs.Faults.{no_faults};
 use crate::ServerStream;
 use http_relay_wire::{SocketWire, Wire, WireFault};
 
-/// A wire over a connection to a server, which knows whether a read has told that the server ended.
+/// A wire over a connection to a server, which knows whether a read has reported that the server ended.
 #[derive(Debug, Drop)]
 pub struct ServerWire {
     wire: SocketWire<ServerStream>,
@@ -23,7 +23,7 @@ impl ServerWire {
         }
     }
 
-    /// Whether a read has told that the server ended.
+    /// Whether a read has reported that the server ended.
     pub(crate) fn has_ended(&self) -> bool {
         self.has_ended
     }

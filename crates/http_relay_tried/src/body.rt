@@ -7,7 +7,7 @@ pub(crate) enum PartKind {
     Size,
     /// The data of a chunk.
     Content,
-    /// The line end behind the data of a chunk.
+    /// The line end after the data of a chunk.
     ContentEnd,
     /// The trailer with its empty line.
     Trailer,

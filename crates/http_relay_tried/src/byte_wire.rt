@@ -1,4 +1,4 @@
-//! A wire over memory that fails behind any of its bytes, however these are parted.
+//! A wire over memory that fails after any of its bytes, however these are split up.
 
 ghost use Rattle.std.specs.Prelude.{◌≡◌, ◌^◌, None, false};
 ghost use Rattle.http_relay_wire.specs.Faults.{no_faults};
@@ -12,11 +12,11 @@ use std::alloc::Global;
 pub(crate) struct Peer {
     /// How many bytes come of what it would send.
     pub(crate) sends: usize,
-    /// How a read behind those fails. Without a fault the peer ends there.
+    /// How a read after those fails. Without a fault the peer ends there.
     pub(crate) then: Option<WireFault>,
     /// How many bytes it takes.
     pub(crate) takes: usize,
-    /// How a write behind those fails.
+    /// How a write after those fails.
     pub(crate) refuses: WireFault,
     /// The most bytes that a read gives, in turn; 0 counts as 1.
     pub(crate) pieces: (usize, usize),
@@ -24,7 +24,7 @@ pub(crate) struct Peer {
     pub(crate) most_written: usize,
 }
 
-/// A wire to a peer that sends fixed bytes. What is written to it is kept. It tells no proof of its bytes, so that it may be plain.
+/// A wire to a peer that sends fixed bytes. What is written to it is kept. It states no proof of its bytes, so that it may be plain.
 #[derive(Drop)]
 pub(crate) struct ByteWire<'a> {
     peer: Peer,
@@ -120,7 +120,7 @@ pub(crate) fn front(text: &[u8], count: usize) -> &[u8] {
     &text[..count.min(text.len())]
 }
 
-/// What stands behind them.
+/// What comes after them.
 pub(crate) fn back(text: &[u8], count: usize) -> &[u8] {
     &text[count.min(text.len())..]
 }

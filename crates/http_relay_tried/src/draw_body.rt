@@ -92,7 +92,7 @@ fn size_line(alloc: Global, dice: &mut Dice, size: usize) -> Result<Part, AllocE
     Ok(good(PartKind::Size, text))
 }
 
-/// Adds to a size what stands behind it.
+/// Adds to a size what comes after it.
 fn end_size_line(dice: &mut Dice, text: &mut Vec<u8>) -> Result<(), AllocError> {
     let behind = dice.word(&["", "", "", " ", ";a=\"1\"", "\t ;\x00"]);
     text.extend_from_slice(behind.as_bytes())?;
@@ -136,14 +136,14 @@ fn long_trailer(alloc: Global, size: usize) -> Result<Vec<u8>, AllocError> {
     Ok(text)
 }
 
-/// Makes one of the parts bad. What stood behind it is no part any more.
+/// Makes one of the parts bad. What came after it is no part any more.
 fn spoil(alloc: Global, dice: &mut Dice, parts: &mut Vec<Part>) -> Result<(), AllocError> {
     let at = dice.roll(parts.len());
     let kind = match parts.get(at) {
         Some(part) => part.kind,
         None => PartKind::Size,
     };
-    // Data can't be bad, but what stands behind it can.
+    // Data can't be bad, but what comes after it can.
     let (at, kind) = match kind {
         PartKind::Content => (at.saturating_add(1), PartKind::ContentEnd),
         PartKind::Size | PartKind::ContentEnd | PartKind::Trailer => (at, kind),
@@ -179,7 +179,7 @@ fn bad(
     })
 }
 
-/// What may stand in the place of a size line, and with how many of its bytes it shows: with the first byte that can't stand there.
+/// What may be there instead of a size line, and with how many of its bytes it shows: with the first byte that can't stand there.
 const BAD_SIZE_LINES: &[(&str, usize)] = &[
     ("g\r\n", 1),
     ("1g\r\n", 2),
@@ -204,7 +204,7 @@ fn bad_size_line(alloc: Global, dice: &mut Dice) -> Result<Part, AllocError> {
     Ok(line)
 }
 
-/// What may stand in the place of a trailer, and with how many of its bytes it shows: it may with the first byte that can't stand
+/// What may be there instead of a trailer, and with how many of its bytes it shows. It may with the first byte that can't stand
 /// there, and has to at the end of its line.
 const BAD_TRAILERS: &[(&str, usize, usize)] = &[
     ("Bad Name: 1\r\n\r\n", 4, 13),

@@ -5,7 +5,7 @@ use crate::head::{Head, Line, MOST_FIELDS, Name, Says, Word, add_words};
 use lb_acl::Version;
 use std::alloc::{AllocError, Global};
 
-/// How the end of a body is told.
+/// How the end of a body is found.
 #[derive(Clone, Copy, PartialEq, Eq)]
 pub(crate) enum Framing {
     Nothing,
@@ -34,7 +34,7 @@ pub(crate) fn draw_framing(dice: &mut Dice) -> Framing {
     }
 }
 
-/// A head with this framing, and with this length where it tells one.
+/// A head with this framing, and with this length where it gives one.
 pub(crate) fn draw_head(
     alloc: Global,
     dice: &mut Dice,
@@ -72,7 +72,7 @@ pub(crate) fn draw_head(
     })
 }
 
-/// The lines that tell the end of the body.
+/// The lines that give the end of the body.
 fn framing_lines(
     alloc: Global,
     dice: &mut Dice,
@@ -97,7 +97,7 @@ fn framing_lines(
     Ok(lines)
 }
 
-/// Adds so many lines that tell the coding, and that line which tells a length or a coding badly.
+/// Adds so many lines that give the coding, and the line that gives a length or a coding badly.
 fn add_codings(
     alloc: Global,
     dice: &mut Dice,
@@ -136,7 +136,7 @@ fn other_coding_line(alloc: Global, dice: &mut Dice) -> Result<Line, AllocError>
     Ok(line(dice, Name::TransferEncoding, copied(alloc, value)?, says))
 }
 
-/// A line that tells this length, with zeros before it.
+/// A line that gives this length, with zeros before it.
 fn length_line(alloc: Global, dice: &mut Dice, length: u64) -> Result<Line, AllocError> {
     let zeros = dice.word(&["", "", "0", "00"]);
     // A length of 18 digits has no room for a zero more.
@@ -152,7 +152,7 @@ fn coding_line(alloc: Global, dice: &mut Dice) -> Result<Line, AllocError> {
     Ok(line(dice, Name::TransferEncoding, copied(alloc, value)?, says))
 }
 
-/// A line that tells nothing of the body's end.
+/// A line that says nothing of the body's end.
 fn draw_line(alloc: Global, dice: &mut Dice) -> Result<Line, AllocError> {
     let name = match dice.roll(12) {
         0 => return options_line(alloc, dice),
@@ -167,7 +167,7 @@ fn draw_line(alloc: Global, dice: &mut Dice) -> Result<Line, AllocError> {
     plain_line(alloc, dice, name)
 }
 
-/// A `Connection` that names up to three fields, of which few tell the host or the body.
+/// A `Connection` that names up to three fields, of which few give the host or frame the body.
 fn options_line(alloc: Global, dice: &mut Dice) -> Result<Line, AllocError> {
     let mut value = Vec::from_slice(alloc, b"close")?;
     let mut options = Vec::new(alloc);
@@ -252,8 +252,8 @@ fn plain_line(alloc: Global, dice: &mut Dice, name: Name) -> Result<Line, AllocE
     Ok(line(dice, name, Vec::from_slice(alloc, value)?, Says::Nothing))
 }
 
-/// A line with a long value or lines with short ones, by which the head has about as many bytes or fields as it may have, a few less
-/// or a few more.
+/// A line with a long value or lines with short ones. They give the head about as many bytes or fields as it may have, a few less or
+/// a few more.
 pub(crate) fn stretch(
     alloc: Global,
     dice: &mut Dice,

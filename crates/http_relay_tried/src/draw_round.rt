@@ -19,7 +19,7 @@ use lb_types::ServerId;
 use std::alloc::{AllocError, Global};
 use std::net::Ipv4Addr;
 
-/// The longest length that a head may tell.
+/// The longest length that a head may give.
 const LONGEST: u64 = 999_999_999_999_999_999;
 
 /// The round of this number.
@@ -56,7 +56,7 @@ pub(crate) fn draw_round(alloc: Global, number: u64) -> Result<Round, AllocError
     })
 }
 
-/// What a client sends, as its fields stand in a round.
+/// What a client sends, as its fields are in a round.
 #[derive(Drop)]
 struct Sent {
     head: Head,
@@ -82,8 +82,8 @@ fn draw_sent(alloc: Global, dice: &mut Dice) -> Result<Sent, AllocError> {
     })
 }
 
-/// The head as its client sends it: now and then with as many bytes or fields as it may have, and now and then with a byte in it that
-/// stands in no head. Gives the place of that.
+/// The head as its client sends it. Now and then it has as many bytes or fields as it may have, and now and then a byte that is
+/// in no head. Gives the place of that byte.
 fn draw_text(
     alloc: Global,
     dice: &mut Dice,
@@ -104,7 +104,7 @@ fn draw_text(
     Ok((text, Some(at)))
 }
 
-/// The length that a head tells.
+/// The length that a head gives.
 fn draw_length(dice: &mut Dice) -> u64 {
     match dice.roll(40) {
         0 => LONGEST,
@@ -114,7 +114,7 @@ fn draw_length(dice: &mut Dice) -> u64 {
     }
 }
 
-/// What a client sends: its head, the body, and often a second request behind it.
+/// What a client sends: its head, the body, and often a second request after it.
 fn draw_input(
     alloc: Global,
     dice: &mut Dice,
@@ -127,7 +127,7 @@ fn draw_input(
     Ok(input)
 }
 
-/// Adds the body, and often a second request behind it.
+/// Adds the body, and often a second request after it.
 fn add_body(
     alloc: Global,
     dice: &mut Dice,
@@ -302,7 +302,7 @@ fn draw_piece(dice: &mut Dice, is_long: bool) -> usize {
     }
 }
 
-/// How many bytes a client and a server would send: the one in its head and behind it, the other in its response.
+/// How many bytes a client and a server would send: the one in its head and after it, the other in its response.
 #[derive(Clone, Copy)]
 struct Sizes {
     head: usize,

@@ -49,7 +49,7 @@ pub(crate) enum Says {
     Options(Vec<Name>),
     /// The client waits for leave to send its body.
     Waits,
-    /// The body has so many bytes. Without a number no length is told well.
+    /// The body has so many bytes. Without a number no good length is given.
     Length(Option<u64>),
     /// The body is coded, and whether by the one coding `chunked`.
     Coding(bool),
@@ -73,7 +73,7 @@ pub(crate) struct Line {
     /// What stands between the colon and the value.
     pub(crate) before: &'static str,
     pub(crate) value: Vec<u8>,
-    /// The blanks behind the value, and the end of the line.
+    /// The blanks after the value, and the end of the line.
     pub(crate) behind: &'static str,
     pub(crate) says: Says,
 }
@@ -139,7 +139,7 @@ impl Line {
     }
 }
 
-/// Adds these words, one behind the other.
+/// Adds these words, one after the other.
 pub(crate) fn add_words(bytes: &mut Vec<u8>, words: &[&str]) -> Result<(), AllocError> {
     for word in words {
         bytes.extend_from_slice(word.as_bytes())?;

@@ -12,7 +12,7 @@ use pin_set::{KeyText, PinKey};
 use std::alloc::{AllocError, Global};
 use std::net::Ipv4Addr;
 
-/// How the end of a body is told.
+/// How the end of a body is found.
 #[derive(Clone, Copy)]
 pub(crate) enum Kind {
     Empty,
@@ -36,7 +36,7 @@ pub(crate) fn head_ends(round: &Round) -> (Option<Outcome>, Option<Outcome>) {
             None => (None, None),
         }
     } else if too_many_at.is_some_and(|at| came > at) {
-        // Within the field that is one too many, the one may be told or the other.
+        // Within the field that is one too many, either may be reported.
         (Some(cut(round)), Some(too_large))
     } else {
         (Some(cut(round)), None)
@@ -109,7 +109,7 @@ fn is_option(head: &Head, name: Name) -> bool {
     false
 }
 
-/// How the end of the body is told in a head that isn't refused.
+/// How the end of the body is found in a head that isn't refused.
 pub(crate) fn kind_of(head: &Head) -> Kind {
     let mut kind = Kind::Empty;
     for line in &head.lines {

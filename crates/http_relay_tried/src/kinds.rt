@@ -8,7 +8,7 @@ use http_relay_serve::{Cause, DropCause, Outcome};
 use lb_desk_model::Event;
 use std::alloc::{AllocError, Global};
 
-/// The kinds of ends, by their numbers. Want of memory isn't among them: nothing makes it short here.
+/// The kinds of ends, by their numbers. Out of memory isn't among them: nothing makes memory short here.
 const ENDS: &[&str] = &[
     "relayed",
     "head too large",

@@ -2,8 +2,8 @@
 //!
 //! The first word says how many; a second one, with which round to begin. What was done is printed, and is the same on every machine;
 //! how often each kind came goes to standard error. At the first round that ends otherwise than the model says, all of it is printed,
-//! and the status is 1. Then rounds are served otherwise than the model was told, to see that this is seen. Rounds are drawn by
-//! `draw_round`, the model is `owed`. Proved safe; no promise.
+//! and the status is 1. Then rounds are served otherwise than the model assumes, to see that the comparison finds this. Rounds are
+//! drawn by `draw_round`, the model is `owed`. Proved safe; no promise.
 #![tactic(auto)]
 
 mod body;

@@ -1,7 +1,7 @@
 //! What the profile says of a whole request, in the simplest way.
 //!
-//! It knows the parts that a round was made of, so it reads no bytes, and goes through the steps in their order: the head, its backend,
-//! the desk, the dial, leave to go on, head and body to the server, and the response.
+//! It knows the parts that a round was made of, so it reads no bytes. It goes through the steps in their order: the head, its
+//! backend, the desk, the dial, leave to go on, head and body to the server, and the response.
 
 use crate::body::{Reach, reach_of};
 use crate::byte_wire::{Peer, back, front};
@@ -20,7 +20,7 @@ use std::alloc::{AllocError, Global};
 
 const CONTINUE: &[u8] = b"HTTP/1.1 100 Continue\r\n\r\n";
 
-/// What stands behind the status of the relay's own answer.
+/// What follows the status of the relay's own answer.
 const ANSWER: &str = "\r\nContent-Length: 0\r\nConnection: close\r\n\r\n";
 
 /// What passes between two requests for a connection, in milliseconds.
@@ -92,7 +92,7 @@ fn add_event(
     Ok(None)
 }
 
-/// The backend is asked for the request's server. It ends so, where it is asked in vain.
+/// The backend is asked for the request's server. It ends so, where it is asked without success.
 fn ask(
     alloc: Global,
     round: &Round,
@@ -212,7 +212,7 @@ fn exchange(
     Ok(())
 }
 
-/// How it ends behind this end of the body, to a server that took a head of so many bytes.
+/// How it ends after this end of the body, to a server that took a head of so many bytes.
 fn end_of(round: &Round, server: Peer, head: usize, invited: bool, body: BodyEnd) -> End {
     let ((due, copied), wanted) = match body.due {
         Some(due) => ((due, 0), round.came_behind()),
@@ -359,7 +359,7 @@ fn add_got(round: &Round, end: End, got: &mut Vec<u8>) -> Result<(), AllocError>
     }
 }
 
-/// How many bytes the client gives at most where so many are wanted behind its head: none behind these, but for what comes with the
+/// How many bytes the client gives at most where so many are wanted after its head: none after these, except what comes with the
 /// head's last.
 fn most_given(round: &Round, wanted: usize) -> usize {
     let head = round.text.bytes.len();

@@ -9,7 +9,7 @@ use std::alloc::Global;
 #[derive(Clone, Copy)]
 pub(crate) struct End {
     pub(crate) due: Outcome,
-    /// The client was told to go on, if it took that.
+    /// The client was sent `100 Continue`, if it took that.
     pub(crate) invited: bool,
     /// How many bytes of the response went to the client, if it took these.
     pub(crate) copied: usize,
@@ -51,7 +51,7 @@ pub(crate) struct Owed {
     pub(crate) backend: Option<usize>,
     pub(crate) entries: Vec<Entry>,
     pub(crate) refusals: u64,
-    /// The moments that the clock tells, and how often 50 ms pass.
+    /// The moments that the clock gives, and how often 50 ms pass.
     pub(crate) told: Vec<u64>,
     pub(crate) pauses: usize,
     /// What is dialled, and whether a connection comes of it.

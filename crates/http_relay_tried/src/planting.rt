@@ -1,4 +1,4 @@
-//! Rounds that are served otherwise than the model was told, so that it is seen whether the comparison sees it.
+//! Rounds that are served otherwise than the model assumes, to see whether the comparison finds this.
 
 use crate::round::Round;
 use crate::site::Place;
@@ -10,7 +10,7 @@ use std::net::Ipv4Addr;
 pub(crate) enum Plant {
     /// The client's last byte doesn't come.
     LostByte,
-    /// The first byte behind the head is another one.
+    /// The first byte after the head is another one.
     OtherByte,
     /// The response's last byte doesn't come.
     ShortResponse,
@@ -20,11 +20,11 @@ pub(crate) enum Plant {
     Forwarding,
     /// The client comes from another address.
     OtherSource,
-    /// Keys are cut behind their first byte.
+    /// Keys are cut after their first byte.
     ShortKeys,
     /// The servers listen at other ports.
     OtherPorts,
-    /// Who waits for a connection gives up at once.
+    /// A request that waits for a connection gives up at once.
     NoQueue,
     /// The clock is a millisecond ahead.
     LaterMoment,

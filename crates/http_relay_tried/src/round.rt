@@ -13,7 +13,7 @@ use std::net::Ipv4Addr;
 pub(crate) struct Desk {
     /// To the request for a server.
     pub(crate) asked: Asked,
-    /// To the requests for a connection, in turn. Those behind the last are opened.
+    /// To the requests for a connection, in turn. Those after the last are opened.
     pub(crate) openings: Vec<ScriptedOpening>,
     /// The event that is refused, counted from 0, and how.
     pub(crate) refusing: Option<(u64, Refused)>,
@@ -30,7 +30,7 @@ pub(crate) struct Round {
     pub(crate) start: u64,
     pub(crate) head: Head,
     pub(crate) text: HeadText,
-    /// Where a byte of the head was replaced by one that stands in no head.
+    /// Where a byte of the head was replaced by one that is in no head.
     pub(crate) spoilt_at: Option<usize>,
     /// The parts of the body, if it is a chunked one.
     pub(crate) parts: Vec<Part>,
@@ -50,7 +50,7 @@ impl Round {
         self.client.sends.min(self.input.len())
     }
 
-    /// How many bytes of the client come behind its head.
+    /// How many bytes of the client come after its head.
     pub(crate) fn came_behind(&self) -> usize {
         self.came().saturating_sub(self.text.bytes.len())
     }

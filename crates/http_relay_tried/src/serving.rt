@@ -141,7 +141,7 @@ impl Served<'_> {
         is_same && self.dialer.talks.len() == connections && !self.dialer.forgot
     }
 
-    /// Whether the clock told these moments and paused so.
+    /// Whether the clock gave these moments and paused so.
     fn is_timed(&self, owed: &Owed) -> bool {
         let (Some(told), Some(pauses)) = (self.clock.told(), self.clock.pauses()) else {
             return false;

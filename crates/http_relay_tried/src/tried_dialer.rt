@@ -1,4 +1,4 @@
-//! A dialer over memory, whose wires fail behind any of their bytes.
+//! A dialer over memory, whose wires fail after any of their bytes.
 
 ghost use Rattle.std.specs.Prelude.{None};
 ghost use Rattle.http_relay_dial.specs.Dials.{HasTaken, talk_of};

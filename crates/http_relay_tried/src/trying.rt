@@ -69,7 +69,7 @@ fn try_round<R>(
     Ok(Some(text))
 }
 
-/// In how many of the first rounds, so many, it is seen that they are served otherwise than the model was told.
+/// In how many of the first rounds, so many, it is seen that they are served otherwise than the model assumes.
 pub(crate) fn seen<R>(rt: &R, alloc: Global, plant: Plant, count: u64) -> Result<u64, AllocError> {
     let mut seen: u64 = 0;
     let mut room = [0; HEAD_ROOM];
@@ -97,7 +97,7 @@ fn is_seen<R>(
     Ok(served.difference(&owed).is_some())
 }
 
-/// Tells a round that ended otherwise, with all that is known of it.
+/// Writes a round that ended otherwise, with all that is known of it.
 fn tell(
     alloc: Global,
     text: &mut String,
@@ -123,7 +123,7 @@ fn tell(
     text.push_str(" pauses\n")
 }
 
-/// Tells what a round meets.
+/// Writes what a round meets.
 fn tell_round(alloc: Global, text: &mut String, round: &Round) -> Result<(), AllocError> {
     add(alloc, text, "\nthe client: ", &round.client)?;
     add_bytes(alloc, text, "\nits bytes: ", &round.input)?;
@@ -131,7 +131,7 @@ fn tell_round(alloc: Global, text: &mut String, round: &Round) -> Result<(), All
     add(alloc, text, "\nthe desk: ", &round.desk)
 }
 
-/// Tells a way in which a round may end.
+/// Writes a way in which a round may end.
 fn tell_way(alloc: Global, text: &mut String, way: &Way) -> Result<(), AllocError> {
     let (least, most) = way.sent;
     add(alloc, text, "\nowed is ", &way.outcome)?;

@@ -1,9 +1,9 @@
 //! Connections as the relay and the checks see them: what can be read, what was written, and how they failed.
 //!
-//! Promised: a `Wire`'s contract tells its bytes where it knows them, counts its failures by four kinds, and says how
+//! Promised: a `Wire`'s contract states its bytes where it knows them, counts its failures by four kinds, and says how
 //! many reads are left. `write_all` writes all bytes, or a beginning of them and counts one failure. `ScriptedWire` is
-//! a wire over memory that fails where a test wants it to, `SocketWire` one over a stream of std, which tells no bytes.
-//! Start at `Wire`, whose words are in `specs/Wires.antt`.
+//! a wire over memory that fails where a test wants it to, `SocketWire` one over a stream of std, which states no
+//! bytes. Start at `Wire`, whose words are in `specs/Wires.antt`.
 #![tactic(auto)]
 
 mod fault;

@@ -32,8 +32,8 @@ impl Script<'_> {
     };
 }
 
-/// A wire over memory, for tests: its peer sends fixed bytes and ends, and what is written to it is kept. Want of memory
-/// for that is a broken write.
+/// A wire over memory, for tests: its peer sends fixed bytes and ends, and what is written to it is kept. A write
+/// without memory for that is a broken write.
 #[derive(Debug, Drop)]
 pub struct ScriptedWire<'a> {
     script: Script<'a>,

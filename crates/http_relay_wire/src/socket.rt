@@ -13,7 +13,7 @@ const MOST_READS: u64 = 1 << 62;
 const MOST_TRIES: u32 = 64;
 
 /// A wire over a stream of std, such as a `TcpStream` with its time limits set. Nobody knows what its peer will send, so
-/// it tells no bytes. The stream should send at once what it is given: a wire has no flush.
+/// it states no bytes. The stream should send at once what it is given: a wire has no flush.
 #[derive(Debug, Drop)]
 pub struct SocketWire<S> {
     stream: S,
@@ -38,7 +38,7 @@ impl<S: Read + Write> SocketWire<S> {
     }
 }
 
-// std tells a limit that ran out in one of two ways.
+// std reports a limit that ran out in one of two ways.
 fn fault_of(error: &io::Error) -> WireFault {
     match error.kind() {
         ErrorKind::WouldBlock | ErrorKind::TimedOut => WireFault::Timeout,

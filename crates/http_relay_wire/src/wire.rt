@@ -26,7 +26,7 @@ pub trait Wire {
         ensures bytes { (reading self.old).unread
             ≡ prepend_known (moved result buffer.new) (reading self.new).unread }
 
-        // The end is told where no byte is left, and stays told.
+        // The end is reported where no byte is left, and stays reported.
         ensures end { IsTrue (tells_end result (length buffer.new)) → IsAtEnd (reading self.new).unread }
         ensures ended { (reading self.new).ended
             ≡ (reading self.old).ended || tells_end result (length buffer.new) }
@@ -45,7 +45,7 @@ pub trait Wire {
         ensures reading { reading self.new ≡ reading self.old };
 }
 
-/// Writes all of `bytes`; at a fault a beginning of them went out. It takes no memory.
+/// Writes all of `bytes`; at a fault a beginning of them went out. It allocates nothing.
 pub fn write_all<W: Wire>(wire: &mut W, bytes: &[u8]) -> Result<(), WireFault>
     ensures ok { OnOk result (W.written wire.new ≡ append_known (W.written wire.old) bytes.now) }
     ensures err { OnErr result (AppendsBeginning (W.written wire.old) (W.written wire.new) bytes.now) }

@@ -40,7 +40,7 @@ fn in_pieces(pieces: &[usize]) -> Script<'_> {
     }
 }
 
-// Whether the body goes out whole, of which these bytes stand behind the head and the rest comes from the client, and what is left of that
+// Whether the body goes out whole, of which these bytes come after the head and the rest from the client, and what is left of that
 // stays unread.
 fn is_sent(
     alloc: Global,
@@ -57,7 +57,7 @@ fn is_sent(
     answer == Ok(()) && server.written() == body && client.unread() == left
 }
 
-// Behind how many bytes of the input the head's bytes end where its body isn't sent, if there is such a place.
+// After how many bytes of the input the head's bytes end where its body isn't sent, if there is such a place.
 fn failing_cut(
     alloc: Global,
     kind: BodyKind,
@@ -219,7 +219,7 @@ fn bad_bodies_are_told_by_their_faults(rt: HostRuntime) {
     }
 }
 
-// Nothing is waited for behind bytes that can become no body: so a read that fails behind them is never made.
+// Nothing is waited for after bytes that can become no body: so a read that fails after them is never made.
 #[test]
 fn bad_bodies_are_told_before_the_client_fails(rt: HostRuntime) {
     for (kind, input, fault) in BAD_BODIES {
@@ -237,7 +237,7 @@ fn bad_bodies_are_told_before_the_client_fails(rt: HostRuntime) {
     }
 }
 
-// Whether a client that ends behind these bytes is cut short there, and what is owed of them went out: all of a body that is told by its
+// Whether a client that ends after these bytes is cut short there, and what is owed of them went out: all of a body that has a
 // length.
 fn is_cut_short(alloc: Global, kind: BodyKind, front: &[u8]) -> bool {
     let mut client = ScriptedWire::new(alloc, front, Script::SMOOTH);
@@ -264,7 +264,7 @@ fn a_client_that_ends_inside_its_body_is_cut_short(rt: HostRuntime) {
     }
 }
 
-// A hundred chunks of this content, each behind its line, and the end.
+// A hundred chunks of this content, each after its line, and the end.
 fn hundred_chunks(
     alloc: Global,
     line: &[u8],
@@ -295,9 +295,9 @@ fn is_enough(alloc: Global, input: &[u8], reads: u64, writes: u64) -> bool {
     answer.is_ok()
 }
 
-// As many reads and writes as these are enough, and one fewer is not. The first read takes the 4 bytes that the shortest body has, and
-// each other one the rest of its chunk and 4 bytes behind it. So a last chunk with a trailer of one line feed has come with the chunk
-// before it, and CR LF costs one read more. What was judged goes out before each read but the first two, and at the end.
+// As many reads and writes as these are enough, and one fewer is not. The first read takes the 4 bytes that the shortest body has,
+// and each other one the rest of its chunk and 4 bytes after it. So a last chunk with a trailer of one line feed has come with the
+// chunk before it, and CR LF costs one read more. What was judged goes out before each read but the first two, and at the end.
 #[test]
 fn a_chunk_costs_one_read_and_one_write(rt: HostRuntime) -> Result<(), Fail> {
     let alloc = rt.alloc();

@@ -1,6 +1,6 @@
 //! Wires; bodies and responses over wires that end, fail, or give their bytes in pieces; and the numbers and texts of faults.
 //!
-//! Tests alone. Whole requests stand in `http_relay_serve_rows`. Start at `bodies`.
+//! Tests alone. Whole requests are in `http_relay_serve_rows`. Start at `bodies`.
 #![tactic(auto)]
 
 #[cfg(test)]

@@ -4,7 +4,7 @@ use std::alloc::{AllocError, Global};
 use std::cell::Cell;
 use std::test::Fail;
 
-/// A scripted wire that notes its calls in a log which it shares: each adds its digit behind those before.
+/// A scripted wire that notes its calls in a log which it shares: each appends its digit.
 #[derive(Drop)]
 struct Noting<'a> {
     wire: ScriptedWire<'a>,
@@ -97,8 +97,8 @@ fn responses_are_copied_to_their_end(rt: HostRuntime) -> Result<(), Fail> {
     Ok(())
 }
 
-// A response that comes in these pieces, and goes out in writes of two bytes: the read that fails, the write that fails, the answer, and
-// what went out.
+// A response that comes in these pieces, and goes out in writes of two bytes: the read that fails, the write that fails, the answer,
+// and what went out.
 type Failing = (
     &'static [usize],
     Option<(u64, WireFault)>,

@@ -220,7 +220,7 @@ fn answers(
 }
 
 // How each call of a stream fails, or how many bytes it takes; and what a write of these bytes, a write of all of them and a read
-// answer. A read of a socket over its limit is told as `WouldBlock`, and on some systems as `TimedOut`; a stream that takes no
+// answer. A read of a socket over its limit is reported as `WouldBlock`, and on some systems as `TimedOut`; a stream that takes no
 // byte is broken.
 #[test]
 fn the_answers_of_a_stream_are_told_apart(rt: HostRuntime) {

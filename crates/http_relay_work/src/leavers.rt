@@ -18,6 +18,9 @@ const LOOKS_A_REQUEST: usize = 4;
 /// How many connections a worker waits for at most. Where there are more the oldest is closed.
 const MOST_LEAVERS: usize = 1024;
 
+/// How many a worker on call waits for at most. There may be many such workers, and each allocates room for that many.
+const FEW_LEAVERS: usize = 64;
+
 /// A connection that was served, until its client closes it.
 #[derive(Drop)]
 struct Leaver<S> {
@@ -31,14 +34,24 @@ struct Leaver<S> {
 #[derive(Drop)]
 pub struct Leavers<S: Drop> {
     streams: VecDeque<Leaver<S>>,
+    most: usize,
 }
 
 impl<S: Read + Write + OpenStream + Drop> Leavers<S> {
     /// None yet. It takes all its memory here; where that is refused a connection that there is no room for is closed at once.
     pub fn new(alloc: Global) -> Self {
+        Leavers::of(alloc, MOST_LEAVERS)
+    }
+
+    /// The same for a worker on call, with less room.
+    pub(crate) fn on_call(alloc: Global) -> Self {
+        Leavers::of(alloc, FEW_LEAVERS)
+    }
+
+    fn of(alloc: Global, most: usize) -> Self {
         let mut streams = VecDeque::new(alloc);
-        let _ = streams.reserve(MOST_LEAVERS);
-        Leavers { streams }
+        let _ = streams.reserve(most);
+        Leavers { streams, most }
     }
 
     /// Whether all are gone.
@@ -66,7 +79,7 @@ impl<S: Read + Write + OpenStream + Drop> Leavers<S> {
         let Some(until) = now.checked_add(Duration::from_millis(MOST_MILLIS)) else {
             return;
         };
-        if self.streams.len() >= MOST_LEAVERS {
+        if self.streams.len() >= self.most {
             drop(self.streams.pop_front());
         }
         let leaver = Leaver {

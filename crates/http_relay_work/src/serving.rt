@@ -17,11 +17,11 @@ use std::io::{Read, Write};
 use std::net::{Ipv4Addr, Net, OpenStream};
 use std::time::Clock;
 
-/// Serves the one request of a client that came to a frontend, with one port for each backend, and ends the connection. None where the
-/// configuration has no such frontend: the connection is closed.
+/// Serves the one request of a client that came to a frontend, with one port for each backend, and ends the connection. None where
+/// the configuration has no such frontend: the connection is closed.
 ///
-/// Behind the dial no memory is asked for. The client's stream has the limits that it came with, and came set not to block; the bytes that
-/// were read of it come first. Where the client doesn't close by itself it is waited for among `leavers`.
+/// After the dial no memory is asked for. The client's stream has the limits that it came with, and came set not to block; the bytes
+/// that were read of it come first. Where the client doesn't close by itself it is waited for among `leavers`.
 pub fn serve_arrival<R, S, P, G>(
     rt: &R,
     alloc: Global,
@@ -85,8 +85,8 @@ where
 }
 
 /// Ends the client's connection. One that broke off before its head was read got nothing that could be lost, so it is closed at once.
-/// So is one whose head took too long: of a client that was silent nothing is unread, by which an answer would be lost, and to wait for
-/// its end would give a silent client a worker for a second.
+/// So is one whose head took too long: a silent client left nothing unread, by which an answer would be lost. To wait for its end
+/// would give a silent client a worker for a second.
 fn end<R, S>(rt: &R, outcome: Outcome, client: EagerStream<S>, leavers: &mut Leavers<S>)
 where
     R: Clock,

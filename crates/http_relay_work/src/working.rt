@@ -2,34 +2,32 @@ ghost use Rattle.std.specs.Prelude.{◌≡◌, ◌≤◌, List, length};
 ghost use Rattle.http_relay_serve.specs.Serves.{port_seen};
 ghost use Rattle.http_relay_work.specs.Services.{Service, ServesInTurn};
 
-use crate::{Leavers, Relay, serve_arrival};
-use crossbeam_channel::{Receiver, RecvTimeoutError};
+use crate::waiting::next_arrival;
+use crate::{Leavers, Post, Relay, serve_arrival};
+use crossbeam_channel::Receiver;
 use http_relay_head::HEAD_ROOM;
 use http_relay_lobby::Arrival;
 use http_relay_serve::Worker;
 use http_relay_system::{SocketDialer, SystemClock};
 use lb_desk_ports::{Gate, Port};
 use std::alloc::Global;
-use std::io::{Read, Write};
-use std::net::{Net, OpenStream};
+use std::net::Net;
 use std::sync::Wait;
-use std::thread;
-use std::time::{Clock, Duration};
+use std::time::Clock;
 
-/// How many milliseconds pass between two looks at all that were served and didn't leave yet.
-const TICK_MILLIS: u64 = 20;
-
-/// Serves one connection after another until the line is empty and all who put connections into it are gone, and gives the ports back,
-/// one for each backend. That the line has ended is the whole notice of a stop: what stands in the line is served before.
+/// Serves one connection after another until the line is empty and all that put connections into it are gone. Then it gives the ports
+/// back, one for each backend. That the line has ended is the whole notice of a stop: what is in the line is served before. A worker on
+/// call rests if it isn't needed at the line, and also ends if it rests and nothing calls it any more.
 ///
-/// All that a worker needs for its requests is made before the first; a request asks for memory three times, and never behind its dial. A
-/// client that doesn't close its connection at once is waited for beside the next requests. Where the line has ended the worker waits for
-/// the last of them, for a second at most.
+/// All that a worker needs for its requests is made before the first; a request allocates three times, and never after its
+/// dial. A client that doesn't close its connection at once is waited for beside the next requests. Where the line has ended the
+/// worker waits for the last of them, for a second at most.
 pub fn work<R, P, G>(
     rt: &R,
     alloc: Global,
     relay: Relay<'_>,
     arrivals: &Receiver<Arrival<R::Stream>>,
+    post: Post<'_>,
     gate: G,
     ports: Vec<P>,
 ) -> Vec<P>
@@ -48,12 +46,17 @@ where
         dialer: SocketDialer::new(),
     };
     let mut room = [0; HEAD_ROOM];
-    let mut leavers = Leavers::new(alloc);
+    let mut leavers = if post.is_on_call() {
+        Leavers::on_call(alloc)
+    } else {
+        Leavers::new(alloc)
+    };
     let mut ports = ports;
     for _ in rt.forever() {
-        let Some(arrival) = next_arrival(rt, arrivals, &mut leavers, &mut room) else {
+        let Some(arrival) = next_arrival(rt, arrivals, post, &mut leavers, &mut room) else {
             break;
         };
+        post.begin();
         serve_arrival(
             rt,
             alloc,
@@ -64,38 +67,7 @@ where
             &mut room,
             &mut leavers,
         );
+        post.end();
     }
     ports
-}
-
-/// The next connection to serve, or none where no more can come and all that were served are gone. Meanwhile those are looked at.
-fn next_arrival<R, S>(
-    rt: &R,
-    arrivals: &Receiver<Arrival<S>>,
-    leavers: &mut Leavers<S>,
-    room: &mut [u8; HEAD_ROOM],
-) -> Option<Arrival<S>>
-where
-    R: Clock + Wait,
-    S: Read + Write + OpenStream + Drop,
-{
-    leavers.look_at_older(rt, room);
-    for _ in rt.forever() {
-        if leavers.is_empty() {
-            return arrivals.recv(rt).ok();
-        }
-        match arrivals.recv_timeout(rt, Duration::from_millis(TICK_MILLIS)) {
-            Ok(arrival) => return Some(arrival),
-            Err(RecvTimeoutError::Timeout) => leavers.look(rt, usize::MAX, room),
-            Err(RecvTimeoutError::Disconnected) => break,
-        }
-    }
-    for _ in rt.forever() {
-        if leavers.is_empty() {
-            break;
-        }
-        thread::sleep(rt, Duration::from_millis(TICK_MILLIS));
-        leavers.look(rt, usize::MAX, room);
-    }
-    None
 }

@@ -59,7 +59,7 @@ impl TextTest {
         }
     }
 
-    /// Whether the test holds of the request. Takes no memory.
+    /// Whether the test holds of the request. Allocates nothing.
     #[tactic(auto, using(crate::proofs::Values::some_field_passes))]
     pub fn holds(&self, head: &Head) -> bool
         ensures { result ≡ text_holds self.now head.now }
@@ -131,7 +131,7 @@ impl SourceTest {
         SourceTest { networks }
     }
 
-    /// Whether the test holds of the request. Takes no memory.
+    /// Whether the test holds of the request. Allocates nothing.
     pub fn holds(&self, head: &Head) -> bool
         ensures { result ≡ has_source self.now head.now }
     {
@@ -150,7 +150,7 @@ pub enum AclLine {
 }
 
 impl AclLine {
-    /// Whether the line holds of the request. Takes no memory.
+    /// Whether the line holds of the request. Allocates nothing.
     pub fn holds(&self, head: &Head) -> bool
         ensures { result ≡ line_holds self.now head.now }
     {
@@ -184,7 +184,7 @@ impl Acl {
         Acl { lines }
     }
 
-    /// Whether some line holds of the request. Takes no memory.
+    /// Whether some line holds of the request. Allocates nothing.
     pub fn holds(&self, head: &Head) -> bool
         ensures { result ≡ acl_holds self.now head.now }
     {

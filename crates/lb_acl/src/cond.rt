@@ -33,7 +33,7 @@ impl Term {
         Term { is_negated, acl }
     }
 
-    /// Whether the test holds of the request. Takes no memory.
+    /// Whether the test holds of the request. Allocates nothing.
     pub fn holds(&self, head: &Head) -> bool
         ensures { result ≡ term_holds head.now self.now }
     {
@@ -64,7 +64,7 @@ impl Conjunction {
         Conjunction { terms }
     }
 
-    /// Whether each test holds of the request. Takes no memory.
+    /// Whether each test holds of the request. Allocates nothing.
     pub fn holds(&self, head: &Head) -> bool
         ensures { result ≡ all_hold head.now self.now }
     {
@@ -110,7 +110,7 @@ impl Cond {
         }
     }
 
-    /// Whether a rule under this condition applies to the request: a walk over its tests that takes no memory and copies nothing.
+    /// Whether a rule under this condition applies to the request: a walk over its tests that allocates nothing and copies nothing.
     #[tactic(auto, unfolding(crate::specs::Conds::cond_holds))]
     pub fn eval(&self, head: &Head) -> bool
         ensures { result ≡ cond_holds head.now self.now }

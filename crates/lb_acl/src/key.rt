@@ -85,7 +85,7 @@ pub struct StickOn {
 /// The key under which the request's pin stands, or none where what the pattern names is absent or empty, or is no address
 /// in a table of type `ip`.
 ///
-/// Only the bytes of a text key are copied. The error is want of memory.
+/// Only the bytes of a text key are copied. The only error is out of memory.
 pub fn pin_key(alloc: Global, pattern: &StickOn, head: &Head) -> Result<Option<PinKey>, AllocError>
     ensures { IfOk result (λ key. IsKeyOf pattern.now head.now key) }
 {

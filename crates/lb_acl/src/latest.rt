@@ -78,7 +78,7 @@ fn last_cookie_in<'a>(name: &[u8], value: &'a [u8], found: Option<&'a [u8]>) -> 
     last
 }
 
-/// What stands behind the first `=`, if the name stands before it.
+/// What follows the first `=`, if the name stands before it.
 #[tactic(auto, unfolding(crate::specs::Cookies::cookie_value))]
 fn cookie_value<'a>(name: &[u8], pair: &'a [u8]) -> Option<&'a [u8]>
     ensures { option_copied result ≡ cookie_value name.now pair.now }

@@ -1,7 +1,7 @@
 //! What a rule of the configuration asks of a request, and the key that `stick on` takes from it.
 //!
 //! Promised: `Cond::eval`, `designated`, `pin_cost` and `pin_key` are their definitions in `specs/Conds`, `Rules` and `Keys`. Only
-//! `designated` and `pin_key` take memory, and rules that name one ACL share it. Start at `Cond::eval`.
+//! `designated` and `pin_key` allocate, and rules that name one ACL share it. Start at `Cond::eval`.
 #![tactic(auto)]
 
 mod acl;

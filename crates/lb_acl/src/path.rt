@@ -5,8 +5,8 @@ ghost use Rattle.lb_acl.specs.Paths.{path_of, behind_scheme, search_area, ends_p
 
 use crate::bytes::place_of;
 
-/// The path of a request target: from its first `/` up to `?` or `#`. In a target that doesn't begin with `/` and holds `://`, as
-/// `http://host/a`, it is the first `/` behind that. The path is empty where there is no such `/`, as in the target `*`.
+/// The path of a request target: from its first `/` up to `?` or `#`. In a target such as `http://host/a`, which holds `://` and
+/// doesn't begin with `/`, the path starts at the first `/` after `://`. Without such a `/`, as in the target `*`, the path is empty.
 #[tactic(auto, unfolding(crate::specs::Paths::path_of))]
 pub fn path_of(target: &[u8]) -> &[u8]
     ensures { result.now ≡ path_of target.now }
@@ -27,7 +27,7 @@ fn search_area(target: &[u8]) -> &[u8]
     behind_scheme(target).unwrap_or(target)
 }
 
-/// What stands behind the first `://`.
+/// What follows the first `://`.
 fn behind_scheme(target: &[u8]) -> Option<&[u8]>
     ensures { option_copied result ≡ behind_scheme target.now }
 {

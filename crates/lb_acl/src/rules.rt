@@ -49,7 +49,7 @@ impl PinCost {
 
 /// The servers of the rules that apply to the request, in the rules' order. A server that two of them name stands twice.
 ///
-/// The error is want of memory.
+/// The only error is out of memory.
 pub fn designated(
     alloc: Global,
     rules: &[UseServer],
@@ -66,7 +66,7 @@ pub fn designated(
     Ok(servers)
 }
 
-/// The cost of a pin that the request makes: that of the first rule that applies, or 1. Takes no memory.
+/// The cost of a pin that the request makes: that of the first rule that applies, or 1. Allocates nothing.
 pub fn pin_cost(rules: &[PinCost], head: &Head) -> u16
     ensures exact { result ≡ pin_cost head.now rules.now }
     ensures least { 1 ≤ result }

@@ -24,7 +24,7 @@ use lb_types_counted::Counted;
 use pin_set::{Score, TablePin};
 use std::io::Write;
 
-/// What an operator or a replay is answered. It borrows what it tells of.
+/// An answer to an operator or a replay. It borrows what it reports.
 #[derive(Clone, Copy, Debug)]
 pub enum Answer<'a> {
     /// To an event that names this server, or none: the backend's reply.
@@ -52,7 +52,7 @@ pub enum Answer<'a> {
 
 /// Writes the answer's lines, each with its end.
 ///
-/// It takes no memory, holds no more than a word of the answer, and makes a few writes for each word: give it a writer that
+/// It allocates nothing, holds no more than a word of the answer, and makes a few writes for each word: give it a writer that
 /// buffers. Where it fails, the writer's count of failures rose and a beginning of the text went out. Nothing is flushed.
 pub fn write_answer<W: Write>(answer: &Answer<'_>, out: &mut Counted<W>) -> Result<(), WriteFailed>
     ensures whole { OnOk result (Appends out.old.contents out.new.contents (answer_text answer.now)) }

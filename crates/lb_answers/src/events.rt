@@ -72,7 +72,7 @@ fn send_request<W: Write>(
     send_cost(out, sent, request.cost)
 }
 
-/// Sends each of the rules' servers behind a space.
+/// Sends a space before each of the rules' servers, and the server.
 fn send_rules<W: Write>(
     out: &mut Counted<W>,
     sent: Sent,
@@ -135,7 +135,7 @@ fn setting_front(setting: Setting) -> &'static [u8]
     }
 }
 
-/// Sends the words behind the server.
+/// Sends the words after the server.
 fn send_setting<W: Write>(out: &mut Counted<W>, sent: Sent, setting: Setting) -> Sent
     ensures { Sends out.old sent out.new result (setting_behind setting) }
 {

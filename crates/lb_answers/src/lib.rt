@@ -1,7 +1,7 @@
 //! What operators and replays are answered, byte for byte.
 //!
 //! Promised: `write_answer` writes the text of the answer, which `specs/Answers.antt` says, or else a write failed and a
-//! beginning of the text went out. Nothing here takes memory, and no answer is held whole. Start at `Answer`.
+//! beginning of the text went out. Nothing here allocates, and no answer is held whole. Start at `Answer`.
 #![tactic(auto)]
 
 mod answer;

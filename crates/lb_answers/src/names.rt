@@ -9,7 +9,7 @@ use lb_types::{Place, ServerId};
 use lb_types_counted::Counted;
 use std::io::Write;
 
-/// Sends the label, and the number behind it.
+/// Sends the label, and the number after it.
 pub(crate) fn send_labelled<W: Write>(
     out: &mut Counted<W>,
     sent: Sent,
@@ -39,7 +39,7 @@ pub(crate) fn send_server<W: Write>(
     }
 }
 
-/// Sends the server behind a space, if there is one.
+/// Sends a space and the server, if there is one.
 pub(crate) fn send_server_behind<W: Write>(
     out: &mut Counted<W>,
     sent: Sent,

@@ -133,7 +133,7 @@ fn send_want<W: Write>(
     sent
 }
 
-/// Sends the server behind a comma, if the set holds it.
+/// Sends a comma and the server, if the set holds it.
 fn send_member<W: Write>(
     out: &mut Counted<W>,
     sent: Sent,

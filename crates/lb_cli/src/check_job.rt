@@ -13,10 +13,10 @@ use lb_types::Counted;
 use std::alloc::{AllocError, Global};
 use std::io::{Read, Write};
 
-/// Reads the text of a configuration to its end, and writes a line `line N: WORDS ignored` for each thing in it that is
-/// ignored and then `configuration is valid`; or the first fault, as `line 2: 22 UnknownWord`. Tells whether it is valid.
+/// Reads the text of a configuration to its end. Of a valid one it writes a line `line N: WORDS ignored` for each thing that is
+/// ignored, and then `configuration is valid`; else the first fault, as `line 2: 22 UnknownWord`. Returns whether it is valid.
 ///
-/// The text is read whole: one that is larger than memory is want of memory.
+/// The text is read whole: one that is larger than memory fails as out of memory.
 pub fn check<R: Read, W: Write>(
     alloc: Global,
     file: &mut R,
@@ -76,7 +76,7 @@ fn valid_report(alloc: Global, sections: &Sections) -> Result<Vec<u8>, AllocErro
     Ok(report)
 }
 
-/// Puts a line for each warning behind the report.
+/// Appends a line for each warning to the report.
 fn push_warnings(
     alloc: Global,
     report: &mut Vec<u8>,

@@ -12,15 +12,15 @@ use std::rt::Files;
 /// What came of a job.
 #[derive(Debug, Drop)]
 pub enum Performed<'a> {
-    /// It was done, or something hindered it, which was told. The program exits with this status.
+    /// The job was done, or it failed and the reason was printed. The program exits with this status.
     Ended(u8),
-    /// The load of the configuration that this text is, read from this file, is to be balanced. That takes threads and sockets, so
-    /// it is left to the caller, and `end` tells what comes of it.
+    /// The configuration with this text, read from this file, must be run. That takes threads and sockets, so it is left to the
+    /// caller, and `end` reports what comes of it.
     Run { file: &'a str, text: Vec<u8> },
 }
 
-/// Does the job, with its answer on `out` and what hindered it on `err`, and tells the program's exit status, that of `end`; but for
-/// a configuration to run, which is read.
+/// Does the job and returns the program's exit status, that of `end`. The answer goes to `out`. What prevented the job goes to `err`.
+/// A configuration to run is only read, and its text returned.
 pub fn perform<'a, R: Files, O: Write, E: Write>(
     alloc: Global,
     rt: &R,
@@ -56,8 +56,8 @@ fn check_file<R: Files, O: Write, E: Write>(
     end(is_valid_config(alloc, rt, path, &mut out), path, err)
 }
 
-/// Does the job `replay`: the one file's script at the backend of the other's configuration, which is judged before anything else is
-/// told.
+/// Does the job `replay`: the one file's script at the backend of the other's configuration, which is judged before anything else
+/// is reported.
 fn replay_files<R: Files, O: Write, E: Write>(
     alloc: Global,
     rt: &R,
@@ -92,7 +92,7 @@ fn whole_file<R: Files>(alloc: Global, rt: &R, path: &str) -> Result<Vec<u8>, Jo
     whole(alloc, &mut file)
 }
 
-/// Whether nothing hindered the replay of the file's script.
+/// Whether nothing prevented the replay of the file's script.
 fn replay_file<R: Files, O: Write, E: Write>(
     alloc: Global,
     rt: &R,
@@ -129,7 +129,7 @@ fn replay_lines<S: BufRead + Drop, O: Write, E: Write>(
     };
     let mut answers = Counted::new(buffer);
     let done = replay(alloc, config, script, &mut answers, err);
-    // What was answered stands, also where the job ends behind it.
+    // What was answered stands, even if the job ends after it.
     let flushed = answers.flush();
     let is_whole = done?;
     match flushed {

@@ -2,10 +2,10 @@
 //! stated function of these bytes.
 //!
 //! Promised: `check` writes the report of `specs/Checking.antt` for its configuration, and nothing else. Of a report that can't be
-//! written a beginning goes out, and nothing where the job comes to none. Start there, and at `perform`, which finds the job's files
-//! and tells the program's exit status, that of `status_of`. The jobs on sheets and plans are those of `lb_cli_plans` and
-//! `lb_cli_verify`, which whoever uses this crate has from here; `plans_are_verified` says that what the former write is best for the
-//! latter too. `replay` is that of `lb_replay`.
+//! written a beginning goes out; nothing goes out if the job comes to no report. Start there, and at `perform`, which finds the job's
+//! files and returns the program's exit status, that of `status_of`. The jobs on sheets and plans are those of `lb_cli_plans` and
+//! `lb_cli_verify`, re-exported here. `plans_are_verified` says that what the former write is best for the latter too. `replay` is
+//! that of `lb_replay`.
 #![tactic(auto)]
 
 mod check_job;

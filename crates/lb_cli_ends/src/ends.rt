@@ -5,7 +5,7 @@ use crate::JobError;
 use std::io;
 use std::io::Write;
 
-/// Tells on `err` what hindered a job with this file, if anything did, and gives the exit status: `status_of` what came of the job.
+/// Writes to `err` what prevented a job with this file, if anything did. Returns the exit status: `status_of` what came of the job.
 pub fn end<E: Write>(done: Result<bool, JobError>, file: &str, err: &mut E) -> u8
     ensures { result ≡ status_of done }
 {
@@ -16,7 +16,7 @@ pub fn end<E: Write>(done: Result<bool, JobError>, file: &str, err: &mut E) -> u
     status_of(done)
 }
 
-/// The program's exit status after a job: 0 where its answer is yes, and 1 where that is no or the job was not done.
+/// The program's exit status after a job: 0 if its answer is yes, and 1 if that is no or the job was not done.
 pub fn status_of(done: Result<bool, JobError>) -> u8
     ensures { result ≡ status_of done }
 {
@@ -26,7 +26,7 @@ pub fn status_of(done: Result<bool, JobError>) -> u8
     }
 }
 
-/// Tells on standard error what hindered a job.
+/// Writes to standard error what prevented a job.
 fn tell<E: Write>(err: &mut E, error: JobError, file: &str) -> io::Result<()> {
     match error {
         JobError::CannotRead => writeln!(err, "cannot read {file}"),

@@ -17,7 +17,7 @@ pub fn opened<R: Files>(rt: &R, path: &str) -> Result<R::File, JobError>
     }
 }
 
-/// All bytes that are left to read. More than memory can hold is want of memory, and any other failure a file that can't be read.
+/// All bytes that are left to read. More than memory can hold is out of memory; any other failure is a file that can't be read.
 pub fn whole<R: Read>(alloc: Global, file: &mut R) -> Result<Vec<u8>, JobError>
     ensures whole { IfOk result (λ text. IfSome (R.remaining file.old) (λ all. text.items ≡ all)) }
     ensures hindered { IfErr result (λ error. error ≢ CannotWrite) }

@@ -15,7 +15,7 @@ pub fn config_fault_line(alloc: Global, fault: &LocatedFault) -> Result<Vec<u8>,
     Ok(line)
 }
 
-/// Puts `line N: ` behind the text.
+/// Appends `line N: ` to the text.
 pub fn push_line_label(alloc: Global, text: &mut Vec<u8>, line: u32) -> Result<(), AllocError>
     ensures { OnOk result (text.new.items ≡ text.old.items ++ line_label line) }
 {
@@ -25,7 +25,7 @@ pub fn push_line_label(alloc: Global, text: &mut Vec<u8>, line: u32) -> Result<(
     Ok(())
 }
 
-/// Puts the fault's number and name behind the text, and the word that is left out.
+/// Appends the fault's number and name to the text, and the word that is left out.
 fn push_cause(text: &mut Vec<u8>, cause: &Cause) -> Result<(), AllocError>
     ensures { OnOk result (text.new.items ≡ text.old.items ++ cause_text cause.now) }
 {

@@ -1,7 +1,7 @@
 //! How the jobs of the program `stickylb` print the fault of a configuration.
 //!
 //! Promised: a configuration's fault is printed as `specs/Faults.antt` says, by every job that reads one. Start at
-//! `config_fault_line`. What hinders such a job is a `JobError` of `lb_cli_ends`. Private to `lb_cli` and the crates of its jobs.
+//! `config_fault_line`. What prevents such a job is a `JobError` of `lb_cli_ends`. Private to `lb_cli` and the crates of its jobs.
 #![tactic(auto)]
 
 mod config_fault;

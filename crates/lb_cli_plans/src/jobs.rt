@@ -5,8 +5,8 @@ use std::alloc::Global;
 use std::io::Write;
 use std::rt::Files;
 
-/// Does the job `plan` for the sheet in the file, with its answer on `out` and what hindered it on `err`, and tells the program's exit
-/// status, that of `end`.
+/// Does the job `plan` for the sheet in the file. The answer goes to `out`. What prevented the job goes to `err`. Returns the
+/// program's exit status, that of `end`.
 pub fn plan_file<R: Files, O: Write, E: Write>(
     alloc: Global,
     rt: &R,
@@ -30,7 +30,7 @@ pub fn tables_file<R: Files, O: Write, E: Write>(
     end(has_tables(alloc, rt, path, &mut out), path, err)
 }
 
-/// Tells the program's version on `out`, or on `err` that it can't be written, and the program's exit status.
+/// Writes the program's version to `out`, or to `err` that it can't be written. Returns the program's exit status.
 pub fn tell_version<O: Write, E: Write>(out: &mut O, err: &mut E) -> u8 {
     let mut out = Counted::new(out);
     end(version(&mut out), "", err)

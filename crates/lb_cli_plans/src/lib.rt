@@ -2,9 +2,9 @@
 //! follows from these bytes; and the line of the program's version.
 //!
 //! Promised: `plan` writes an answer of `specs/Planning.antt` for its sheet, and `plan_tables` one of `specs/Tables.antt`, and nothing
-//! else. Of an answer that can't be written a beginning goes out, and nothing where a job comes to none. A plan that they write is best.
-//! The jobs that judge plans are those of `lb_cli_verify`. Start at `plan`, and at `plan_file`, which finds the job's file and tells the
-//! program's exit status.
+//! else. Of an answer that can't be written a beginning goes out; nothing goes out if a job comes to no answer. A plan that they write
+//! is best. The jobs that judge plans are those of `lb_cli_verify`. Start at `plan`, and at `plan_file`, which finds the job's file
+//! and returns the program's exit status.
 #![tactic(auto)]
 
 mod jobs;

@@ -19,9 +19,9 @@ use std::alloc::{AllocError, Global};
 use std::io::{Read, Write};
 
 /// Reads the text of a sheet to its end, and writes the text of a best plan for it, whose prices show that it is best; or the
-/// first fault of the text. Tells whether the text was a sheet's.
+/// first fault of the text. Returns whether the text was a sheet's.
 ///
-/// The sheet and the plan's text are held whole: what is larger than memory is want of memory.
+/// The sheet and the plan's text are held whole: what is larger than memory fails as out of memory.
 pub fn plan<R: Read, W: Write>(
     alloc: Global,
     file: &mut R,
@@ -42,10 +42,10 @@ pub fn plan<R: Read, W: Write>(
 }
 
 /// Reads the text of a sheet to its end, and writes a best plan for it as tables for a reader: where pins go, and then each place with
-/// its pins before and after, its capacity and its price. Or it writes the first fault of the text. Tells whether the text was a
+/// its pins before and after, its capacity and its price. Or it writes the first fault of the text. Returns whether the text was a
 /// sheet's.
 ///
-/// The sheet, the plan and the tables are held whole: what is larger than memory is want of memory.
+/// The sheet, the plan and the tables are held whole: what is larger than memory fails as out of memory.
 pub fn plan_tables<R: Read, W: Write>(
     alloc: Global,
     file: &mut R,
@@ -114,7 +114,7 @@ impl Answer {
         })
     }
 
-    /// Writes the answer, and tells whether the text was a sheet's.
+    /// Writes the answer, and returns whether the text was a sheet's.
     fn write<W: Write>(&self, out: &mut Counted<W>) -> Result<bool, JobError>
         ensures read { IfOk result (λ is_sheet. is_sheet ≡ self.now.is_sheet) }
         ensures written { OnOk result (Appends out.old.contents out.new.contents self.now.text.items) }

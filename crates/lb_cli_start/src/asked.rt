@@ -9,7 +9,7 @@ use std::alloc::AllocGlobal;
 
 /// The job that the words ask for. The first word is the program's name.
 ///
-/// Where they ask for none, help or what is wrong was told, each on its stream, and the status to end with stands in the job's place.
+/// If they ask for none, it prints the help, or what is wrong, each on its stream. The error is then the status to end with.
 pub fn asked_job<'a, R: Print + Eprint + AllocGlobal>(
     rt: &R,
     words: &'a [&'a str],

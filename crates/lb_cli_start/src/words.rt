@@ -6,8 +6,8 @@ use std::alloc::{AllocError, AllocGlobal, Global};
 use std::env::Env;
 use std::{env, io};
 
-/// The words of the command line, with the program's name first. Where they can't be had, that was told on standard error, and the
-/// status to end with stands in their place: 1 for want of memory, 2 where the system doesn't give them.
+/// The words of the command line, with the program's name first. If they can't be read, it prints that on standard error. The error
+/// is then the status to end with: 1 when out of memory, 2 if the system doesn't give them.
 pub fn command_line<R: Env + Eprint + AllocGlobal>(rt: &R) -> Result<Vec<String>, u8>
     ensures { IfErr result (λ status. status ≢ 0) }
 {
@@ -25,7 +25,7 @@ pub fn command_line<R: Env + Eprint + AllocGlobal>(rt: &R) -> Result<Vec<String>
     }
 }
 
-/// The words as `read_words` takes them. For want of memory, which was told, the status to end with.
+/// The words as `read_words` takes them. When out of memory it prints that, and the error is the status to end with.
 pub fn texts_of<'a, R: Eprint + AllocGlobal>(
     rt: &R,
     words: &'a [String],
@@ -50,7 +50,7 @@ fn listed<'a>(alloc: Global, words: &'a [String]) -> Result<Vec<&'a str>, AllocE
     Ok(texts)
 }
 
-/// Tells on standard error that memory ran out, and gives the status to end with.
+/// Prints on standard error that memory ran out, and returns the status to end with.
 pub(crate) fn out_of_memory(rt: &impl Eprint) -> u8
     ensures { result ≡ 1 }
 {

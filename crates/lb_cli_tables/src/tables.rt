@@ -10,10 +10,11 @@ use lb_types::{Place, ServerId};
 use lb_types_pins::Row;
 use std::alloc::{AllocError, Global};
 
-/// The tables of a plan: a line for each two places between which pins move, with how many; then one for each place with its pins before
-/// and after, its capacity and the price of a place there, in moved pins. Columns are parted by tabs.
+/// The tables of a plan: a line for each two places between which pins move, with how many; then one for each place with its pins
+/// before and after, its capacity and the price of a place there, in moved pins. Columns are separated by tabs.
 ///
-/// It costs a walk over the plan's rows for each two places, so (S + 1)^2 walks for S servers. The error is want of memory for the text.
+/// It costs a walk over the plan's rows for each two places, so (S + 1)^2 walks for S servers. The only error is out of memory for
+/// the text.
 #[tactic(auto, unfolding(crate::specs::Tables::tables_text))]
 pub fn tables_text(alloc: Global, plan: &Plan) -> Result<Vec<u8>, AllocError>
     ensures { IfOk result (λ text. text.items ≡ tables_text plan.now) }
@@ -121,7 +122,7 @@ fn push_place(
     text.extend_from_slice(b"\n")
 }
 
-/// Puts the capacity and the price of the place behind the text.
+/// Appends the capacity and the price of the place to the text.
 fn push_columns(
     alloc: Global,
     text: &mut Vec<u8>,
@@ -149,7 +150,7 @@ fn push_usage(alloc: Global, text: &mut Vec<u8>, priced: &PricedServer) -> Resul
     push_number(alloc, text, priced.price)
 }
 
-/// Puts this behind the text, and a tab, which ends a column.
+/// Appends this to the text, and a tab, which ends a column.
 fn push_cell(text: &mut Vec<u8>, cell: &[u8]) -> Result<(), AllocError>
     ensures { OnOk result (text.new.items ≡ text.old.items ++ cell.now ++ 9 ∷ []) }
 {
@@ -165,7 +166,7 @@ fn push_number_cell(alloc: Global, text: &mut Vec<u8>, number: u64) -> Result<()
     text.extend_from_slice(b"\t")
 }
 
-/// Puts a number behind the text.
+/// Appends a number to the text.
 fn push_number(alloc: Global, text: &mut Vec<u8>, number: u64) -> Result<(), AllocError>
     ensures { OnOk result (text.new.items ≡ text.old.items ++ decimal number) }
 {

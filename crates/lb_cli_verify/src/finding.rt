@@ -8,7 +8,7 @@ use dual_cert_text::{ReadError, TextFault, read_plan};
 use pin_set::Score;
 use std::alloc::{AllocError, Global};
 
-/// What is found of a text that is to be a best plan.
+/// What is found of a text that must be a best plan.
 #[derive(Clone, Copy, Debug, PartialEq, Eq)]
 pub enum Finding {
     /// The text is a plan, and no plan for its sheet is better. It has this score.
@@ -17,7 +17,7 @@ pub enum Finding {
     NoPlan(TextFault),
     /// The text is a plan that is not lawful or not shown best, or that is made for another sheet.
     Refused(CheckFault),
-    /// The text is a plan that is best for the sheet but for its version, `plan`; that of the sheet is `sheet`.
+    /// The text is a plan that is best for the sheet except for its version, `plan`; that of the sheet is `sheet`.
     OtherVersion { plan: u64, sheet: u64 },
 }
 
@@ -44,7 +44,7 @@ impl Finding {
         })
     }
 
-    /// What is found of the text where its plan is to be for the sheet. Takes the time and the memory of reading it.
+    /// What is found of the text where its plan must be for the sheet. Takes the time and the memory of reading it.
     pub fn for_sheet(alloc: Global, sheet: &Sheet, text: &[u8]) -> Result<Finding, AllocError>
         ensures exact { IfOk result (λ finding. finding ≡ finding_for sheet.now text.now) }
         ensures best { IfOk result (MeansBestFor sheet.now text.now) }
@@ -56,7 +56,7 @@ impl Finding {
         }
     }
 
-    /// What is found of a plan that is to be for the sheet.
+    /// What is found of a plan that must be for the sheet.
     fn of_plan_for(sheet: &Sheet, plan: &Plan) -> Finding
         ensures exact { result ≡ finding_at_versions plan.now.version sheet.now.version (verdict sheet.now plan.now) }
         ensures best { MeansIsBestFor sheet.now plan.now result }

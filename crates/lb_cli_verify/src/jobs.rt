@@ -6,8 +6,8 @@ use std::alloc::Global;
 use std::io::Write;
 use std::rt::Files;
 
-/// Does the job `verify` on the plan in the file, with its answer on `out` and what hindered it on `err`, and tells the program's exit
-/// status, that of `end`.
+/// Does the job `verify` on the plan in the file. The answer goes to `out`. What prevented the job goes to `err`. Returns the
+/// program's exit status, that of `end`.
 pub fn verify_file<R: Files, O: Write, E: Write>(
     alloc: Global,
     rt: &R,

@@ -21,7 +21,7 @@ use std::io::{Read, Write};
 /// Reads the text of a sheet to its end, for plans to be judged by. Where it is no sheet's, it writes its first fault, as
 /// `sheet 40 BadLine 3`.
 ///
-/// The text is read whole: one that is larger than memory is want of memory.
+/// The text is read whole: one that is larger than memory fails as out of memory.
 pub fn sheet_for<R: Read, W: Write>(
     alloc: Global,
     file: &mut R,
@@ -50,11 +50,11 @@ pub fn sheet_for<R: Read, W: Write>(
     }
 }
 
-/// Reads the text of a plan to its end, and writes one line: `best pins N unplaced U moved M` where the plan is made for the
-/// sheet, is lawful, has the sheet's version, and its prices show that no plan is better (with ` cost C` at the end where C isn't
-/// M), and else the first fault. A version alone that isn't the sheet's is told as `version 6 differs from the sheet's 7`.
+/// Reads the text of a plan to its end, and writes one line: `best pins N unplaced U moved M` if the plan is made for the sheet, is
+/// lawful, has the sheet's version, and its prices show that no plan is better; else the first fault. ` cost C` follows M if C isn't
+/// M. If only the version isn't the sheet's, the line is `version 6 differs from the sheet's 7`.
 ///
-/// The text is read whole: one that is larger than memory is want of memory.
+/// The text is read whole: one that is larger than memory fails as out of memory.
 pub fn verify_for<R: Read, W: Write>(
     alloc: Global,
     sheet: &Sheet,

@@ -10,10 +10,10 @@ use lb_types::Counted;
 use std::alloc::Global;
 use std::io::{Read, Write};
 
-/// Reads the text of a plan to its end, and writes one line: `best pins N unplaced U moved M` where the plan is lawful
-/// and its prices show that no plan is better (with ` cost C` at the end where C isn't M), and else the first fault.
+/// Reads the text of a plan to its end, and writes one line: `best pins N unplaced U moved M` if the plan is lawful and its prices
+/// show that no plan is better; else the first fault. ` cost C` follows M if C isn't M.
 ///
-/// The text is read whole: one that is larger than memory is want of memory.
+/// The text is read whole: one that is larger than memory fails as out of memory.
 pub fn verify<R: Read, W: Write>(
     alloc: Global,
     file: &mut R,

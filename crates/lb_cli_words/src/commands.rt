@@ -1,4 +1,4 @@
-//! The commands with their help, as `clap` tells it.
+//! The commands with their help, as `clap` prints it.
 ghost use Rattle.std.specs.Prelude.{◌≡◌, Some, IfOk, IsOkAnd, codes, false};
 ghost use Rattle.clap.specs.Words.{app_of, new_app, new_rule, rule_of, with_rule, with_subcommand};
 ghost use Rattle.clap.specs.declared.builder.command.Command.TheViews.{out-Command as fields_of};
@@ -196,7 +196,7 @@ fn sheet_option<'a>(alloc: Global) -> Arg<'a>
 {
     Arg::new(alloc, "sheet")
         .value_name("SHEET")
-        .help("File that holds the sheet that the plan is to be for")
+        .help("File that holds the sheet to judge the plan by")
         .long("sheet")
 }
 

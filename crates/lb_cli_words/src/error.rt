@@ -4,8 +4,7 @@ ghost use Rattle.lb_cli_words.specs.ExitStatus.{exit_status_of};
 
 use crate::{Error, ErrorKind};
 
-/// What the program is to exit with where `read_words` gave this error: 0 for help, 1 where memory ran out, and 2 for
-/// wrong words.
+/// The status to exit with after `read_words` gave this error: 0 for help, 1 when out of memory, and 2 for wrong words.
 pub fn exit_status(error: &Error) -> u8
     ensures { result ≡ exit_status_of (kind_of error.now) }
 {

@@ -1,11 +1,11 @@
-//! Operands: the words behind a command that are no options.
+//! Operands: the words after a command that are no options.
 ghost use Rattle.std.specs.Prelude.{◌≡◌};
 ghost use Rattle.lb_cli_words.specs.Words.{asks_help_within, exactly, operands_of, texts};
 ghost use Rattle.lb_cli_words.specs.Given.{nothing_if, one_of, two_of};
 
 use crate::word::{ends_options, is_help, is_operand, is_option};
 
-/// Whether no word is left, but for one that ends the options.
+/// Whether no word is left, except for one that ends the options.
 pub(crate) fn is_end(words: &[&str]) -> bool
     ensures { nothing_if result ≡ operands_of 0 (texts words.now) }
 {

@@ -20,7 +20,7 @@ pub(crate) enum OwnOption {
     Table,
 }
 
-/// An option that was read: its value, if it has one, and the words behind it.
+/// An option that was read: its value, if it has one, and the words after it.
 #[derive(Clone, Copy)]
 pub(crate) struct Given<'a> {
     pub(crate) value: Option<&'a str>,

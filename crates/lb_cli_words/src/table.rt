@@ -61,7 +61,7 @@ fn check<'a>(words: &'a [&'a str]) -> Option<Job<'a>>
     Some(Job::Check { file })
 }
 
-/// The value of `-f`, where nothing else stands in the words.
+/// The value of `-f`, where nothing else is in the words.
 fn only_file<'a>(words: &'a [&'a str]) -> Option<&'a str>
     ensures { option_map (λ file. file.now ∷ []) result ≡ files_with (reader_of File) 0 (texts words.now) }
 {
@@ -113,7 +113,7 @@ fn asks_help_behind(command: &str, words: &[&str]) -> bool
     }
 }
 
-/// Whether help is asked for behind the value of `-f`.
+/// Whether help is asked for after the value of `-f`.
 fn file_asks_help(words: &[&str]) -> bool
     ensures { result ≡ asks_help_with (reader_of File) 0 (texts words.now) }
 {

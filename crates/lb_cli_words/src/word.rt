@@ -3,14 +3,14 @@ ghost use Rattle.std.specs.Prelude.{◌≡◌, option_map};
 ghost use Rattle.clap.specs.Lexer.{strip_byte, name_and_value};
 ghost use Rattle.lb_cli_words.specs.Words.{attached, ends_options, first_letter, is_help, is_operand, is_option};
 
-/// What stands behind a hyphen.
+/// What follows a hyphen.
 pub(crate) fn behind_hyphen(word: &str) -> Option<&str>
     ensures { option_map (λ rest. rest.now) result ≡ strip_byte 45 word.now }
 {
     word.strip_prefix('-')
 }
 
-/// The first character behind the hyphen of an option. A word that has none is no option.
+/// The first character after the hyphen of an option. A word that has none is no option.
 pub(crate) fn first_letter(word: &str) -> Option<char>
     ensures { result ≡ first_letter word.now }
 {
@@ -45,21 +45,21 @@ pub(crate) fn is_operand(word: &str) -> bool
     !ends_options(word) && !is_option(word)
 }
 
-/// What stands behind an `f`.
+/// What follows an `f`.
 pub(crate) fn behind_f(text: &str) -> Option<&str>
     ensures { option_map (λ rest. rest.now) result ≡ strip_byte 102 text.now }
 {
     text.strip_prefix('f')
 }
 
-/// What stands behind a `=`.
+/// What follows a `=`.
 fn behind_equals(text: &str) -> Option<&str>
     ensures { option_map (λ rest. rest.now) result ≡ strip_byte 61 text.now }
 {
     text.strip_prefix('=')
 }
 
-/// An option's value in its own word, of which this is what stands behind the letter.
+/// An option's value in its own word, of which this is what follows the letter.
 pub(crate) fn attached(text: &str) -> Option<&str>
     ensures { option_map (λ value. value.now) result ≡ attached text.now }
 {
@@ -69,7 +69,7 @@ pub(crate) fn attached(text: &str) -> Option<&str>
     Some(behind_equals(text).unwrap_or(text))
 }
 
-/// What stands before the first `=`, and what stands behind it, if there is one.
+/// What stands before the first `=`, and what follows it, if there is one.
 pub(crate) fn name_and_value(word: &str) -> (&str, Option<&str>)
     ensures { (result.0.now, option_map (λ value. value.now) result.1) ≡ name_and_value word.now }
 {

@@ -12,7 +12,7 @@ use std::alloc::{AllocError, Global};
 /// The job that the words ask for. The first word is the program's name, as in `std::env::args`.
 ///
 /// A request for help is an error of the kind `DisplayHelp`. The error's `Display` is the text for the user, and
-/// `exit_status` tells what the program is to exit with.
+/// `exit_status` says what the program is to exit with.
 pub fn read_words<'a>(alloc: Global, words: &'a [&'a str]) -> Result<Job<'a>, Error>
     ensures ok { IfOk result (λ job. row_in (texts words.now) ≡ Some (row_of job)) }
     ensures only_memory { IfErr result (λ e. IsSome (row_in (texts words.now))

@@ -94,7 +94,7 @@ impl BackendConfig {
         self.evacuate
     }
 
-    /// Whether the client's address is told to the servers.
+    /// Whether the client's address is sent to the servers.
     pub fn forward_for(&self) -> bool
         ensures { result ≡ self.now.forward_for }
     {
@@ -155,7 +155,7 @@ impl BackendConfig {
         }
     }
 
-    /// How many milliseconds one whole check of the server may take, if there is a limit: 1 to 2147483647, where the server's
+    /// How many milliseconds one whole check of the server may take, if there is a limit. It is 1 to 2147483647 if the server's
     /// `inter` is a time, as that of each server of the backend is.
     pub fn probe_limit(&self, server: &ServerConfig) -> Option<u32>
         ensures exact { result ≡ probe_limit self.now.timeouts server.now.interval }

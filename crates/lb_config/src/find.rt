@@ -31,8 +31,8 @@ impl FindFault {
 }
 
 impl Config {
-    /// The place of the backend of this name, and its server. A backend that is none is told before a server that is none.
-    /// Takes no memory.
+    /// The place of the backend of this name, and its server. An unknown backend is reported before an unknown server.
+    /// Allocates nothing.
     pub fn find(&self, backend: &Name, server: &Name) -> Result<(usize, ServerId), FindFault>
         ensures { result ≡ find_server self.now.backends backend.now server.now }
     {
@@ -43,7 +43,7 @@ impl Config {
         }
     }
 
-    /// The place of the backend of this name. Takes no memory.
+    /// The place of the backend of this name. Allocates nothing.
     pub fn find_backend(&self, backend: &Name) -> Result<usize, FindFault>
         ensures { result ≡ find_backend self.now.backends backend.now }
     {

@@ -52,7 +52,7 @@ impl Frontend {
         self.name
     }
 
-    /// Whether the client's address is told to the servers.
+    /// Whether the client's address is sent to the servers.
     pub fn forward_for(&self) -> bool
         ensures { result ≡ self.now.forward_for }
     {
@@ -76,7 +76,7 @@ impl Frontend {
     }
 
     /// The backend of the request, by its place among the configuration's backends; none where no rule applies and there is no
-    /// default. Takes no memory.
+    /// default. Allocates nothing.
     pub fn backend_of(&self, head: &Head) -> Option<usize>
         ensures { result ≡ backend_of self.now head.now }
     {

@@ -1,4 +1,4 @@
-//! The configuration as the program has it: frontends and backends, each with what its section, the `defaults` before it and the
+//! The configuration as the program uses it: frontends and backends, each with what its section, the `defaults` before it and the
 //! manual's defaults say.
 //!
 //! Promised: `read_config` gives the configuration that `specs/Configs` defines of the sections of a text without a fault, or the

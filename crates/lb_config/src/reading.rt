@@ -15,7 +15,7 @@ use lb_config_values::GlobalValues;
 use lb_config_words::Word;
 use std::alloc::{AllocError, Global};
 
-/// The configuration that the text is, or its first fault, as `lb_config_sections::read_checked` tells it.
+/// The configuration that the text is, or its first fault, as `lb_config_sections::read_checked` reports it.
 ///
 /// Cost: a few walks over the lines, and of each backend its servers against each other. The lines of ACLs and the words of
 /// `option httpchk` are kept once for all that share them.

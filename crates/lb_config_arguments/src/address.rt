@@ -27,7 +27,7 @@ pub fn read_server_endpoint(words: &Words, word: &[u8]) -> Result<Endpoint, Line
     endpoint_at(words, word, server_host(host_part(word)), port_part(word))
 }
 
-/// The endpoint that `text` names: `*`, nothing, IPv4 or `localhost`, and a port. Where the address is refused, `word` is told.
+/// The endpoint that `text` names: `*`, nothing, IPv4 or `localhost`, and a port. If the address is refused, the fault names `word`.
 #[tactic(auto, unfolding(crate::specs::Addresses::listen_endpoint_in))]
 pub fn read_listen_endpoint(words: &Words, word: &[u8], text: &[u8]) -> Result<Endpoint, LineError>
     ensures { Gives (λ endpoint. endpoint) result (listen_endpoint_in word.now text.now) }
@@ -136,7 +136,7 @@ fn port_part(word: &[u8]) -> Option<&[u8]>
     Some(port)
 }
 
-/// How many bytes stand behind the last colon; all of them where there is none.
+/// How many bytes follow the last colon; all of them if there is none.
 fn port_len(word: &[u8]) -> usize
     ensures exact { result ≡ port_len word.now }
     ensures within { result ≤ length word.now }

@@ -2,7 +2,7 @@ use lb_config_words::Word;
 use std::alloc::{AllocError, AllocFailed};
 use thiserror::Error;
 
-/// Why a line is refused. Of several faults in a line the first from the left is told.
+/// Why a line is refused. Of several faults in a line the first from the left is reported.
 #[derive(Debug, Drop)]
 pub enum Fault {
     /// 21: before any section stands a word that begins none.

@@ -1,7 +1,7 @@
 //! The arguments of a line of a configuration: words from the left, numbers, times, sizes, names and addresses.
 //!
 //! Promised: each reader gives exactly what its function in `specs/` gives, the value or the first fault. Where a line's spelling
-//! breaks off, that fault stands in the place of the next word. Start at `Words`; the steps of readers that take every word of a
+//! breaks off, that fault replaces the next word. Start at `Words`; the steps of readers that take every word of a
 //! line are in `proofs/WordSteps`. Private to `lb_config`.
 #![tactic(auto)]
 

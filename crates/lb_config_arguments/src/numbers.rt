@@ -79,7 +79,7 @@ fn amount(unit: Option<u64>, digits: Digits) -> Option<u64>
     }
 }
 
-/// The digits that the word begins with, and what stands behind them.
+/// The digits that the word begins with, and what follows them.
 fn split(word: &[u8]) -> (&[u8], &[u8])
     ensures digits { result.0.now ≡ take (digit_count word.now) word.now }
     ensures unit { result.1.now ≡ drop (digit_count word.now) word.now }

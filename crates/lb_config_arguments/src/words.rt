@@ -9,7 +9,7 @@ use lb_types::Name;
 use std::alloc::{AllocError, Global};
 use std::marker::Model;
 
-/// The words of a line that are not yet read. As a value it is those words and why the line's spelling breaks off behind them.
+/// The words of a line that are not yet read. As a value it is those words and why the line's spelling breaks off after them.
 #[derive(Debug, Drop)]
 pub struct Words<'a> {
     alloc: Global,

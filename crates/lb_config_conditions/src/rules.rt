@@ -83,7 +83,7 @@ impl CostRule {
     }
 }
 
-/// The words behind `use_backend`: a name, and a condition or nothing.
+/// The words after `use_backend`: a name, and a condition or nothing.
 #[tactic(auto, unfolding(crate::specs::RuleLines::backend_rule_at))]
 pub fn read_backend_rule(words: &mut Words) -> Result<BackendRule, LineError>
     ensures { Gives (λ rule. rule) result (backend_rule_at words.old) }
@@ -93,7 +93,7 @@ pub fn read_backend_rule(words: &mut Words) -> Result<BackendRule, LineError>
     Ok(BackendRule { backend, cond })
 }
 
-/// The words behind `use-server`: a name and a condition.
+/// The words after `use-server`: a name and a condition.
 #[tactic(auto, unfolding(crate::specs::RuleLines::server_rule_at))]
 pub fn read_server_rule(words: &mut Words) -> Result<ServerRule, LineError>
     ensures { Gives (λ rule. rule) result (server_rule_at words.old) }
@@ -103,7 +103,7 @@ pub fn read_server_rule(words: &mut Words) -> Result<ServerRule, LineError>
     Ok(ServerRule { server, cond })
 }
 
-/// The words behind `pin-cost`: a cost and a condition.
+/// The words after `pin-cost`: a cost and a condition.
 #[tactic(auto, unfolding(crate::specs::RuleLines::cost_rule_at))]
 pub fn read_cost_rule(words: &mut Words) -> Result<CostRule, LineError>
     ensures { Gives (λ rule. rule) result (cost_rule_at words.old) }
@@ -117,7 +117,7 @@ pub fn read_cost_rule(words: &mut Words) -> Result<CostRule, LineError>
     })
 }
 
-/// The words behind `acl`.
+/// The words after `acl`.
 #[tactic(auto, unfolding(crate::specs::AclLines::declaration_at))]
 pub fn read_declaration(words: &mut Words) -> Result<AclDeclaration, LineError>
     ensures { Gives (λ declaration. declaration) result (declaration_at words.old) }

@@ -6,7 +6,7 @@ ghost use Rattle.lb_config_keywords.specs.SettingLines.{left_out_balances, is_le
 use lb_config_arguments::{Fault, LineError, Words, is};
 use lb_types::Balance;
 
-/// The words behind `balance`.
+/// The words after `balance`.
 #[tactic(auto, unfolding(crate::specs::SettingLines::balance_at))]
 pub fn read_balance(words: &mut Words) -> Result<Balance, LineError>
     ensures { Gives (λ balance. balance) result (balance_at words.old) }

@@ -16,7 +16,7 @@ pub struct HttpCheck {
     pub version: Version,
 }
 
-/// The words behind `option httpchk`: nothing, a URI, a method and a URI, or these and a version.
+/// The words after `option httpchk`: nothing, a URI, a method and a URI, or these and a version.
 #[tactic(auto, unfolding(crate::specs::SettingLines::http_check_at))]
 pub fn read_http_check(words: &mut Words) -> Result<HttpCheck, LineError>
     ensures { Gives (λ check. check) result (http_check_at words.old) }

@@ -149,7 +149,7 @@ impl CommonKeyword {
         }
     }
 
-    /// Whether the section has it. What stands behind `timeout`, `option` and `stats` is asked for itself.
+    /// Whether the section has it. What follows `timeout`, `option` and `stats` is asked for itself.
     pub fn stands_in(self, section: Section) -> bool
         ensures { result ≡ common_stands_in self section }
     {

@@ -18,7 +18,7 @@ pub fn read_bare_end(words: &mut Words) -> Result<(), LineError>
     }
 }
 
-/// The words behind `mode`.
+/// The words after `mode`.
 #[tactic(auto, unfolding(crate::specs::SettingLines::mode_at))]
 pub fn read_mode(words: &mut Words) -> Result<(), LineError>
     ensures { Gives (λ done. done) result (mode_at words.old) }
@@ -41,7 +41,7 @@ fn check_mode(words: &Words, word: &[u8]) -> Result<(), LineError>
     Err(Fault::UnknownWord.into())
 }
 
-/// The words behind `bind`.
+/// The words after `bind`.
 #[tactic(auto, unfolding(crate::specs::SettingLines::bind_at))]
 pub fn read_bind(words: &mut Words) -> Result<Endpoint, LineError>
     ensures { Gives (λ endpoint. endpoint) result (bind_at words.old) }
@@ -52,7 +52,7 @@ pub fn read_bind(words: &mut Words) -> Result<Endpoint, LineError>
     Ok(endpoint)
 }
 
-/// The words behind `default_backend`.
+/// The words after `default_backend`.
 #[tactic(auto, unfolding(crate::specs::SettingLines::default_backend_at))]
 pub fn read_default_backend(words: &mut Words) -> Result<Name, LineError>
     ensures { Gives (λ name. name) result (default_backend_at words.old) }

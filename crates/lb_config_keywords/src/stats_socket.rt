@@ -19,11 +19,11 @@ pub enum SocketAddress {
 pub struct StatsSocket {
     /// Where it listens.
     pub address: SocketAddress,
-    /// Whether words stand behind the address, which are ignored with a warning that names the line's first two words.
+    /// Whether words follow the address. They are ignored, with a warning that names the line's first two words.
     pub has_more: bool,
 }
 
-/// The words behind `stats socket`.
+/// The words after `stats socket`.
 #[tactic(auto, unfolding(crate::specs::SettingLines::stats_socket_at))]
 pub fn read_stats_socket(words: &mut Words) -> Result<StatsSocket, LineError>
     ensures { Gives (λ socket. socket) result (stats_socket_at words.old) }

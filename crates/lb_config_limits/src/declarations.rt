@@ -43,7 +43,7 @@ impl Model for Declarations {
 }
 
 impl Declarations {
-    /// Before the first line. Takes no memory.
+    /// Before the first line. Allocates nothing.
     pub fn new(alloc: Global) -> Self
         ensures { result ≡ nothing }
     {
@@ -57,7 +57,7 @@ impl Declarations {
         }
     }
 
-    /// Takes the next line's words, unless the line may not stand behind those before it.
+    /// Takes the next line's words, unless the line may not follow those before it.
     ///
     /// A name is looked up in a set, so a text of a million bytes of any kind is judged in a moment.
     #[tactic(auto, unfolding(crate::specs::Limits::take_line))]

@@ -1,7 +1,7 @@
 use std::alloc::AllocFailed;
 use thiserror::Error;
 
-/// Why a line may not stand behind the lines before it.
+/// Why a line may not follow the lines before it.
 #[derive(Clone, Copy, Debug, PartialEq, Eq, Error)]
 pub enum LimitFault {
     /// 26: another frontend, backend, or server of the section has the name. A `listen` section counts as both.

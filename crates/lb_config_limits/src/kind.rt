@@ -88,9 +88,9 @@ fn rule_kind(word: &[u8]) -> Option<Kind>
     }
 }
 
-/// `stick on`, by the line's first word and the words behind it.
+/// `stick on`, by the line's first word and the words after it.
 ///
-/// A line `stick` of another kind has a fault of its own, which `lb_config_lines` tells.
+/// A line `stick` of another kind has a fault of its own, which `lb_config_lines` reports.
 #[tactic(auto, unfolding(crate::specs::Kinds::stick_kind))]
 fn stick_kind(word: &[u8], rest: &[Word]) -> Option<Kind>
     ensures { result ≡ stick_kind word.now rest.now }
@@ -109,7 +109,7 @@ fn is(word: &[u8], wanted: &[u8]) -> bool
     *word == *wanted
 }
 
-/// The name behind the line's first word, if one stands there.
+/// The name after the line's first word, if one stands there.
 #[tactic(auto, unfolding(crate::specs::Kinds::name_in))]
 pub(crate) fn name_in(words: &[Word]) -> Option<Name>
     ensures { result ≡ name_in words.now }

@@ -67,7 +67,7 @@ fn read_common_statement(
     Ok(Statement::Setting(setting))
 }
 
-/// The words behind `timeout`.
+/// The words after `timeout`.
 #[tactic(auto, unfolding(crate::specs::Lines::timeout_at))]
 fn read_timeout(section: Section, words: &mut Words) -> Result<Statement, LineError>
     ensures { Gives (λ statement. statement) result (timeout_at section words.old) }
@@ -86,7 +86,7 @@ fn read_timeout(section: Section, words: &mut Words) -> Result<Statement, LineEr
     Ok(Statement::Setting(Setting::Timeout(kind, millis)))
 }
 
-/// The words behind `option`.
+/// The words after `option`.
 #[tactic(auto, unfolding(crate::specs::Lines::option_at))]
 fn read_option(section: Section, words: &mut Words) -> Result<Statement, LineError>
     ensures { Gives (λ statement. statement) result (option_at section words.old) }
@@ -135,7 +135,7 @@ fn read_other_option(words: &Words, word: &[u8]) -> Result<Statement, LineError>
     Err(Fault::UnknownWord.into())
 }
 
-/// The words behind `stats`.
+/// The words after `stats`.
 #[tactic(auto, unfolding(crate::specs::Lines::stats_at))]
 fn read_stats(section: Section, words: &mut Words) -> Result<Statement, LineError>
     ensures { Gives (λ statement. statement) result (stats_at section words.old) }

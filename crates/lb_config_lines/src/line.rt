@@ -16,7 +16,7 @@ use lb_types::Name;
 use std::alloc::Global;
 
 /// What the words of a line say in the section, or before any section, or the line's first fault from the left. `ending` is why
-/// the line's spelling breaks off behind the words.
+/// the line's spelling breaks off after the words.
 ///
 /// Names of backends, servers and ACLs are not looked up, and nothing is compared with other lines.
 #[tactic(auto, unfolding(crate::specs::Lines::statement_in))]
@@ -48,7 +48,7 @@ fn read_statement(section: Option<Section>, words: &mut Words) -> Result<Stateme
     }
 }
 
-/// The words behind a section's word.
+/// The words after a section's word.
 #[tactic(auto, unfolding(crate::specs::Lines::header_at))]
 fn read_header(section: Section, words: &mut Words) -> Result<Header, LineError>
     ensures { Gives (λ header. header) result (header_at section words.old) }
@@ -112,7 +112,7 @@ fn read_server_line(
     Ok(Statement::Setting(read_server_setting(keyword, words)?))
 }
 
-/// The words behind a keyword of requests.
+/// The words after a keyword of requests.
 #[tactic(auto, unfolding(crate::specs::Lines::proxy_setting_at))]
 fn read_proxy_setting(keyword: ProxyKeyword, words: &mut Words) -> Result<Setting, LineError>
     ensures { Gives (λ setting. setting) result (proxy_setting_at keyword words.old) }
@@ -130,7 +130,7 @@ fn read_proxy_setting(keyword: ProxyKeyword, words: &mut Words) -> Result<Settin
     }
 }
 
-/// The words behind a keyword of servers and pins.
+/// The words after a keyword of servers and pins.
 #[tactic(auto, unfolding(crate::specs::Lines::server_setting_at))]
 fn read_server_setting(keyword: ServerKeyword, words: &mut Words) -> Result<Setting, LineError>
     ensures { Gives (λ setting. setting) result (server_setting_at keyword words.old) }

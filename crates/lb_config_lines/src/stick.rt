@@ -5,7 +5,7 @@ use lb_acl::KeySample;
 use lb_config_arguments::{Fault, LineError, Words, is};
 use lb_config_conditions::read_pattern;
 
-/// The words behind `stick`.
+/// The words after `stick`.
 #[tactic(auto, unfolding(crate::specs::StickLines::stick_at))]
 pub(crate) fn read_stick(words: &mut Words) -> Result<KeySample, LineError>
     ensures { Gives (λ sample. sample) result (stick_at words.old) }
@@ -28,7 +28,7 @@ fn check_stick(words: &Words, word: &[u8]) -> Result<(), LineError>
     Err(Fault::UnknownWord.into())
 }
 
-/// The words behind `stick on`.
+/// The words after `stick on`.
 #[tactic(auto, unfolding(crate::specs::StickLines::pattern_at))]
 fn read_stick_on(words: &mut Words) -> Result<KeySample, LineError>
     ensures { Gives (λ sample. sample) result (pattern_at words.old) }

@@ -22,7 +22,7 @@ impl OptionsState {
         OptionsState { options, due: None }
     }
 
-    /// The state behind a parameter.
+    /// The state after a parameter.
     fn with_parameter(options: ServerOptions, parameter: Parameter) -> Self
         ensures { result ≡ with_parameter options parameter }
     {
@@ -41,7 +41,7 @@ impl OptionsState {
         OptionsState::said(options)
     }
 
-    /// The state behind the word.
+    /// The state after the word.
     #[tactic(auto, unfolding(crate::specs::Options::option_word))]
     fn with_word(self, words: &Words, is_default: bool, word: &[u8]) -> Result<Self, LineError>
         ensures { Gives (λ state. state) result (option_word is_default self word.now) }

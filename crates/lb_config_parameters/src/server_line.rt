@@ -17,7 +17,7 @@ pub struct ServerLine {
     pub options: ServerOptions,
 }
 
-/// The words behind `server`: a name, an address with its port, and parameters.
+/// The words after `server`: a name, an address with its port, and parameters.
 #[tactic(auto, unfolding(crate::specs::ServerLines::server_at))]
 pub fn read_server(words: &mut Words) -> Result<ServerLine, LineError>
     ensures { Gives (λ server. server) result (server_at words.old) }
@@ -33,7 +33,7 @@ pub fn read_server(words: &mut Words) -> Result<ServerLine, LineError>
     })
 }
 
-/// The words behind `default-server`: parameters, at least one.
+/// The words after `default-server`: parameters, at least one.
 #[tactic(auto, unfolding(crate::specs::ServerLines::default_server_at))]
 pub fn read_default_server(words: &mut Words) -> Result<ServerOptions, LineError>
     ensures { Gives (λ options. options) result (default_server_at words.old) }

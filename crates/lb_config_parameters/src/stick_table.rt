@@ -53,8 +53,8 @@ impl StickTable {
         self.kind
     }
 
-    /// What a backend's table is told of it: how many pins it may hold, 1 to 16777216; after how many milliseconds without use a
-    /// pin goes; and whether a full table keeps its pins, and takes no new one.
+    /// The settings for a backend's table: how many pins it may hold, 1 to 16777216, and after how many milliseconds without use a
+    /// pin goes. They also say whether a full table keeps its pins and takes no new one.
     pub fn settings(&self) -> TableSettings
         ensures size { result.size ≡ self.now.size }
         ensures expire { result.expire ≡ self.now.expire }
@@ -64,7 +64,7 @@ impl StickTable {
     }
 }
 
-/// The words behind `stick-table`.
+/// The words after `stick-table`.
 #[tactic(auto, unfolding(crate::specs::StickTables::stick_table_at))]
 pub fn read_stick_table(words: &mut Words) -> Result<StickTable, LineError>
     ensures { Gives (λ table. table) result (stick_table_at words.old) }

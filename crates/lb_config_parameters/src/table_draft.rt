@@ -80,7 +80,7 @@ impl TableDraft {
         }
     }
 
-    /// The draft behind the word.
+    /// The draft after the word.
     #[tactic(auto, unfolding(crate::specs::StickTables::table_word))]
     pub(crate) fn with_word(self, words: &Words, word: &[u8]) -> Result<Self, LineError>
         ensures { Gives (λ table. table) result (table_word self word.now) }
@@ -150,7 +150,7 @@ impl TableDraft {
         table
     }
 
-    /// The draft behind the name of a parameter.
+    /// The draft after the name of a parameter.
     #[tactic(auto, unfolding(crate::specs::StickTables::table_parameter))]
     fn with_parameter(self, words: &Words, word: &[u8]) -> Result<Self, LineError>
         ensures { Gives (λ table. table) result (table_parameter self word.now) }
@@ -170,7 +170,7 @@ impl TableDraft {
         Err(Fault::LeftOut(words.copied(word)?).into())
     }
 
-    /// The draft behind a type.
+    /// The draft after a type.
     #[tactic(auto, unfolding(crate::specs::StickTables::table_type))]
     fn with_type(self, words: &Words, word: &[u8]) -> Result<Self, LineError>
         ensures { Gives (λ table. table) result (table_type self word.now) }

@@ -194,7 +194,7 @@ const TEXTS: &[(&[u8], &[BackendRow])] = &[
             ],
         )],
     ),
-    // A `default-server` behind the servers counts for nobody.
+    // A `default-server` after the servers applies to none.
     (
         b"backend web\nserver a 1.2.3.4:1\nserver b 1.2.3.4:1 weight 0\nserver c 1.2.3.4:1\ndefault-server weight 5",
         &[(

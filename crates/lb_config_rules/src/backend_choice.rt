@@ -13,7 +13,7 @@ pub struct BackendChoice {
 }
 
 impl BackendChoice {
-    /// Whether the rule applies to the request. Takes no memory.
+    /// Whether the rule applies to the request. Allocates nothing.
     pub fn applies(&self, head: &Head) -> bool
         ensures { result ≡ applies head.now self.now }
     {
@@ -24,7 +24,7 @@ impl BackendChoice {
     }
 }
 
-/// The backend of the first rule that applies to the request. Takes no memory.
+/// The backend of the first rule that applies to the request. Allocates nothing.
 pub fn chosen(rules: &[BackendChoice], head: &Head) -> Option<usize>
     ensures { result ≡ chosen head.now rules.now }
 {

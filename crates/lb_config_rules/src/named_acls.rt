@@ -95,7 +95,7 @@ impl Model for NamedAcls {
 }
 
 impl NamedAcls {
-    /// The ACLs of these lines. A line of a name is put behind the others of its name.
+    /// The ACLs of these lines. A line of a name is put after the others of its name.
     pub(crate) fn of(alloc: Global, lines: Vec<AclDeclaration>) -> Result<Self, AllocError>
         ensures { IfOk result (λ named. named ≡ with_lines [] lines.items) }
     {

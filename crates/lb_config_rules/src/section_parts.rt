@@ -49,7 +49,7 @@ impl SectionParts {
         }
     }
 
-    /// The parts of the settings. Nothing is copied. The error is want of memory.
+    /// The parts of the settings. Nothing is copied. The only error is out of memory.
     pub(crate) fn of(alloc: Global, settings: Vec<NumberedSetting>) -> Result<Self, AllocError>
         ensures { IfOk result (λ parts. parts ≡ parts_of settings.items) }
     {

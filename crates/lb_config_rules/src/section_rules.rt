@@ -101,7 +101,7 @@ impl BackRules {
 
 /// The rules of a section of these settings. `backends` are the names of all backends, `servers` those of the section's servers.
 ///
-/// The lines of an ACL are moved and not copied, and the conditions that name it share them. The error is want of memory.
+/// The lines of an ACL are moved and not copied, and the conditions that name it share them. The only error is out of memory.
 pub fn read_rules(
     alloc: Global,
     backends: &[Name],
@@ -168,7 +168,7 @@ fn resolve_parts(
     Ok((choices, back))
 }
 
-/// The pattern with the type of the table, if both stand in the section.
+/// The pattern with the type of the table, if both are in the section.
 fn stick_on_of(table: &Option<StickTable>, sample: Option<KeySample>) -> Option<StickOn>
     ensures { result ≡ stick_on_of table.now sample }
 {

@@ -111,7 +111,7 @@ pub(crate) fn line_cause(fault: Fault) -> Cause
     }
 }
 
-/// The cause of a line that may not stand behind the lines before it.
+/// The cause of a line that may not follow the lines before it.
 pub(crate) fn limit_cause(alloc: Global, fault: LimitFault) -> Result<Cause, AllocError>
     ensures { IfOk result (λ cause. cause ≡ limit_cause fault) }
 {

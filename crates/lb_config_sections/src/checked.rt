@@ -10,9 +10,9 @@ use std::alloc::{AllocError, Global};
 
 /// The sections of a configuration's text and the warnings of its lines, or its first fault.
 ///
-/// The first fault of a line counts, as `read_text` tells it. Where no line has one, the first line counts
-/// that names a backend, a server of its section or an ACL of its section that none declares (27), or that has a `stick on` in
-/// a section without a table (23). What is overridden or stands in `defaults` is looked up all the same.
+/// The first fault of a line counts, as `read_text` reports it. If no line has one, the first line counts that names a backend, a
+/// server of its section or an ACL of its section that none declares (27), or that has a `stick on` in a section without a table
+/// (23). What is overridden or is in `defaults` is looked up all the same.
 #[tactic(auto, unfolding(crate::specs::References::checked_in))]
 pub fn read_checked(alloc: Global, text: &[u8]) -> Result<Sections, ConfigFault>
     ensures { Gives (λ sections. sections) result (checked_in text.now) }

@@ -14,7 +14,7 @@ pub struct NumberedSetting {
     pub setting: Setting,
 }
 
-/// A section: its first line, and what the lines behind it set. As a value it is both.
+/// A section: its first line, and what the lines after it set. As a value it is both.
 #[derive(Debug, Drop)]
 pub struct ConfigSection {
     header: Header,
@@ -40,7 +40,7 @@ impl ConfigSection {
         }
     }
 
-    /// Puts a setting behind the others.
+    /// Appends a setting to the others.
     pub(crate) fn push(&mut self, line: u32, setting: Setting) -> Result<(), AllocError>
         ensures { OnOk result (self.new ≡ with_setting self.old line setting) }
     {

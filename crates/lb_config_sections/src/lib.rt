@@ -1,8 +1,8 @@
 //! A configuration as a list of sections, each with what its lines set, and the warnings of the lines that are ignored.
 //!
-//! Promised: `read_checked` gives exactly what `specs/References` defines: the lines from the first on, each judged behind those
-//! before it (`specs/SectionsSoFar`), up to the first fault; and where no line has one, the first name that no line declares.
-//! `read_text` is the same but for those names. Start at `read_checked`. Private to `lb_config` and to the job `check` of `lb_cli`.
+//! Promised: `read_checked` gives exactly what `specs/References` defines: the lines from the first on, each judged after those
+//! before it (`specs/SectionsSoFar`), up to the first fault; and if no line has one, the first name that no line declares.
+//! `read_text` is the same except for those names. Start at `read_checked`. Private to `lb_config` and to the job `check` of `lb_cli`.
 #![tactic(auto)]
 
 mod cause;

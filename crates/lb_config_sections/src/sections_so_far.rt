@@ -36,7 +36,7 @@ impl Model for SectionsSoFar {
 }
 
 impl SectionsSoFar {
-    /// Before the first line. Takes no memory.
+    /// Before the first line. Allocates nothing.
     pub(crate) fn new(alloc: Global) -> Self
         ensures { result ≡ no_lines }
     {
@@ -59,7 +59,7 @@ impl SectionsSoFar {
         Ok(())
     }
 
-    /// Refuses a line that may not stand behind the lines before it.
+    /// Refuses a line that may not follow the lines before it.
     #[tactic(auto, unfolding(crate::specs::SectionsSoFar::declared_behind))]
     fn declare(&mut self, alloc: Global, line: &Line) -> Result<(), ConfigFault>
         ensures { Gives (λ _. self.new) result (declared_behind self.old line.now) }
@@ -165,7 +165,7 @@ impl SectionsSoFar {
     }
 }
 
-/// Whether words stand behind the setting that are ignored.
+/// Whether words follow the setting that are ignored.
 fn has_ignored_words(setting: &Setting) -> bool
     ensures { result ≡ has_ignored_words setting.now }
 {

@@ -30,7 +30,7 @@ fn read_text_lines(alloc: Global, text: &[u8]) -> Result<Vec<Line>, ConfigFault>
     }
 }
 
-/// Where the fault of a whole text is told.
+/// Where the fault of a whole text is reported.
 fn located(fault: TextFault) -> LocatedFault
     ensures { result ≡ located fault }
 {

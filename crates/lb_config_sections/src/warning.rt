@@ -41,7 +41,7 @@ fn ignored_text(alloc: Global, which: IgnoredWords, words: &[Word]) -> Result<Wo
     Ok(Word::new(text))
 }
 
-/// Puts a space and the next word behind the text, if there is one.
+/// Appends a space and the next word to the text, if there is one.
 fn push_second(text: &mut Vec<u8>, rest: &[Word]) -> Result<(), AllocError>
     ensures { OnOk result (text.new.items ≡ text.old.items ++ second_text rest.now) }
 {

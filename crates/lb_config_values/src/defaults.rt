@@ -7,7 +7,7 @@ use lb_config_parameters::ServerOptions;
 use lb_config_sections::NumberedSetting;
 use std::alloc::{AllocError, Global};
 
-/// What a `defaults` section says of the sections behind it.
+/// What a `defaults` section says of the sections after it.
 #[derive(Debug, Drop)]
 pub struct Defaults {
     /// The single values.
@@ -30,7 +30,7 @@ impl Defaults {
         }
     }
 
-    /// What a `defaults` section of these settings says. The error is want of memory.
+    /// What a `defaults` section of these settings says. The only error is out of memory.
     pub fn of(alloc: Global, settings: &[NumberedSetting]) -> Result<Self, AllocError>
         ensures { IfOk result (λ defaults. defaults ≡ defaults_of settings.now) }
     {

@@ -42,7 +42,7 @@ impl<'a> GlobalValues<'a> {
         }
     }
 
-    /// These values, with what the settings say behind them: of a value the last one said counts.
+    /// These values, with what the settings say after them: if a value is repeated, the last one counts.
     pub fn behind(self, settings: &'a [NumberedSetting]) -> Self
         ensures { result ≡ globals_behind self.entry settings.now }
     {

@@ -34,7 +34,7 @@ impl SharedCheck {
         SharedCheck { line: None }
     }
 
-    /// The last `option httpchk` of the settings, or this one where they have none. The error is want of memory.
+    /// The last `option httpchk` of the settings, or this one if they have none. The only error is out of memory.
     pub fn behind(&self, alloc: Global, settings: &[NumberedSetting]) -> Result<Self, AllocError>
         ensures { IfOk result (λ check. check ≡ last_said self.now check_line_in settings.now) }
     {

@@ -39,7 +39,7 @@ impl ProxyValues {
         }
     }
 
-    /// These values, with what the settings say behind them: of a value the last one said counts.
+    /// These values, with what the settings say after them: if a value is repeated, the last one counts.
     pub fn behind(self, settings: &[NumberedSetting]) -> Self
         ensures { result ≡ values_behind self settings.now }
     {

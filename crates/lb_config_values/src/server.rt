@@ -12,7 +12,7 @@ use server_state::{AdminState, CheckSettings, ServerSettings};
 use std::alloc::{AllocError, Global};
 use std::marker::Model;
 
-/// A server of a backend, as the configuration has it.
+/// A server of a backend, as it is configured.
 #[derive(Debug, Drop)]
 pub struct ServerConfig {
     name: Name,
@@ -38,7 +38,7 @@ impl Model for ServerConfig {
 
 impl ServerConfig {
     /// The server of a line, of which `options` say what the line and the `default-server` lines before it say. It may hold
-    /// `max_pins` pins where no `maxpins` is said. The error is want of memory.
+    /// `max_pins` pins if no `maxpins` is given. The only error is out of memory.
     pub(crate) fn of(
         alloc: Global,
         max_pins: u32,

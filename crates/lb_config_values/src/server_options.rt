@@ -21,7 +21,7 @@ pub(crate) fn options_over(defaults: ServerOptions, own: ServerOptions) -> Serve
     }
 }
 
-/// What is said of the servers behind the setting.
+/// What is said of the servers after the setting.
 pub(crate) fn with_default(defaults: ServerOptions, setting: &Setting) -> ServerOptions
     ensures { result ≡ with_default defaults setting.now }
 {

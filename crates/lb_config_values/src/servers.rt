@@ -11,7 +11,7 @@ use lb_config_parameters::ServerOptions;
 use lb_config_sections::NumberedSetting;
 use std::alloc::{AllocError, Global};
 
-/// What the `default-server` lines of a `defaults` section say of the servers behind it.
+/// What the `default-server` lines of a `defaults` section say of the servers after it.
 pub(crate) fn default_options(settings: &[NumberedSetting]) -> ServerOptions
     ensures { result ≡ default_options no_options settings.now }
 {
@@ -23,7 +23,7 @@ pub(crate) fn default_options(settings: &[NumberedSetting]) -> ServerOptions
 }
 
 /// The servers of a section, in their order. `defaults` is what is said of servers before the section, `max_pins` how many pins
-/// a server may hold of which no `maxpins` is said, and `check` what checks send. The error is want of memory.
+/// a server without `maxpins` may hold, and `check` what checks send. The only error is out of memory.
 pub fn read_servers(
     alloc: Global,
     max_pins: u32,
@@ -44,7 +44,7 @@ pub fn read_servers(
     Ok(servers)
 }
 
-/// Puts the server behind the others, if the setting is one.
+/// Appends the server to the others, if the setting is one.
 fn push_server(
     alloc: Global,
     max_pins: u32,

@@ -32,7 +32,7 @@ impl Timeouts {
         }
     }
 
-    /// These times, with one said behind them.
+    /// These times, with one more said after them.
     pub(crate) fn with(self, which: Timeout, millis: u32) -> Self
         ensures { result ≡ with_timeout self which millis }
     {

@@ -1,16 +1,16 @@
 use std::alloc::{AllocError, AllocFailed};
 use thiserror::Error;
 
-/// Why the spelling of a line breaks off. The fault stands behind the words before it.
+/// Why the spelling of a line breaks off. The fault comes after the words before it.
 #[derive(Clone, Copy, Debug, PartialEq, Eq, Error)]
 pub enum SpellingFault {
-    /// A quote is not closed in its line. It is told at the quote that opens.
+    /// A quote is not closed in its line. It is reported at the quote that opens.
     #[error("a quote is not closed")]
     UnclosedQuote,
     /// A backslash stands at the line's end, or before a character that none may stand before.
     #[error("a backslash stands before a character that needs none")]
     RefusedBackslash,
-    /// A `$` stands in double quotes without a backslash: environment variables are not read.
+    /// A `$` is in double quotes without a backslash: environment variables are not read.
     #[error("environment variables are not read")]
     RefusedDollar,
     /// A 65th word begins.
@@ -24,7 +24,7 @@ pub enum TextFault {
     /// The text has more than 1048576 bytes.
     #[error("the text has more than 1048576 bytes")]
     TooLong,
-    /// The text is not UTF-8; the first bad byte stands in the line of this number, counted from 1.
+    /// The text is not UTF-8; the first bad byte is in the line of this number, counted from 1.
     #[error("line {0} is not UTF-8")]
     NotUtf8(u32),
 }

@@ -56,7 +56,7 @@ impl Line {
         &self.words
     }
 
-    /// Why the spelling breaks off behind the words, or none where the line is whole.
+    /// Why the spelling breaks off after the words, or none if the line is whole.
     pub fn ending(&self) -> Option<SpellingFault>
         ensures { result ≡ self.now.ending }
     {
@@ -64,7 +64,7 @@ impl Line {
     }
 }
 
-/// Puts the line behind the others, if it has a word or breaks off.
+/// Appends the line to the others, if it has a word or breaks off.
 #[tactic(auto, unfolding(crate::specs::Lines::told))]
 pub(crate) fn push_line(
     alloc: Global,

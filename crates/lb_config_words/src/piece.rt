@@ -59,7 +59,7 @@ impl<'a> Model for Pieces<'a> {
     ghost view = { λ p. pieces p.quoting p.rest.now };
 }
 
-/// A piece, and the place behind it.
+/// A piece, and the place after it.
 #[derive(Debug, Drop)]
 struct Taken<'a> {
     piece: Piece,
@@ -155,7 +155,7 @@ fn in_double(byte: u8, rest: &[u8]) -> Taken<'_>
     }
 }
 
-/// What stands behind a backslash.
+/// What follows a backslash.
 #[tactic(auto, unfolding(crate::specs::Pieces::escaped))]
 fn escaped(quoting: Quoting, bytes: &[u8]) -> Taken<'_>
     ensures { TakesOne result (escaped quoting bytes.now) }
@@ -203,7 +203,7 @@ fn letter(byte: u8, quoting: Quoting, rest: &[u8]) -> Taken<'_>
     }
 }
 
-/// Nothing stands behind a fault.
+/// Nothing follows a fault.
 #[tactic(auto, unfolding(crate::specs::Pieces::pieces))]
 fn broken<'a>(fault: SpellingFault) -> Taken<'a>
     ensures { TakesOne result (Broken fault ∷ []) }
@@ -215,14 +215,14 @@ fn broken<'a>(fault: SpellingFault) -> Taken<'a>
     }
 }
 
-/// Whether a single quote stands in the bytes.
+/// Whether a single quote is in the bytes.
 fn closes_single(bytes: &[u8]) -> bool
     ensures { result ≡ closes_single bytes.now }
 {
     bytes.contains(&b'\'')
 }
 
-/// Whether a double quote stands in the bytes, and no backslash before it.
+/// Whether a double quote is in the bytes, and no backslash before it.
 #[tactic(auto, unfolding(crate::specs::Pieces::closes_double), using(crate::proofs::Quotes::closes_behind_one))]
 fn closes_double(bytes: &[u8]) -> bool
     ensures { result ≡ closes_double bytes.now }

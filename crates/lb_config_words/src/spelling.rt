@@ -11,7 +11,7 @@ use std::marker::Model;
 /// How many words a line may have.
 const MAX_WORDS: usize = 64;
 
-/// The words of a line, and why its spelling breaks off behind them, if it does.
+/// The words of a line, and why its spelling breaks off after them, if it does.
 #[derive(Debug, Drop)]
 pub(crate) struct Spelling {
     pub(crate) words: Vec<Word>,

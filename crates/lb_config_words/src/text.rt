@@ -16,7 +16,7 @@ const MAX_BYTES: usize = 1_048_576;
 /// A text of more than 1048576 bytes is `TooLong`, and else one that is not UTF-8 is `NotUtf8` at the line of its first bad
 /// byte. Lines end with LF or with CR LF, the last one's end may be missing, and a CR elsewhere is a byte of a word. Words
 /// are separated by spaces and tabs; quotes, backslashes and comments are resolved. One walk over the text, another one
-/// over what stands in double quotes; the memory is that of the words.
+/// over what is in double quotes; the memory is that of the words.
 #[tactic(auto, unfolding(crate::specs::Texts::reading))]
 pub fn read_lines(alloc: Global, text: &[u8]) -> Result<Vec<Line>, WordsFault>
     ensures { Gives (λ lines. lines.items) result (reading text.now) }
@@ -42,7 +42,7 @@ fn text_fault(text: &[u8]) -> Option<TextFault>
     Some(TextFault::NotUtf8(line_behind(front)))
 }
 
-/// The number of the line in which the byte behind this front stands.
+/// The number of the line in which the byte after this front stands.
 fn line_behind(front: &[u8]) -> u32
     requires { length front.now ≤ MAX_BYTES }
     ensures { result ≡ line_behind front.now }

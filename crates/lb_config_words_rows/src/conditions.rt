@@ -8,7 +8,7 @@ use std::alloc::Global;
 use std::process::Abort;
 use std::test::Fail;
 
-/// What stands behind the alternative in the text that is wanted, if that begins so: tests are joined by `&`, `!` stands before a
+/// What follows the alternative in the text that is wanted, if that begins so: tests are joined by `&`, `!` stands before a
 /// negated one, and `{}` for an anonymous ACL.
 fn behind_tests<'a>(alternative: &Alternative, wanted: &'a [u8]) -> Option<&'a [u8]> {
     let mut rest = wanted;

@@ -1,5 +1,5 @@
-//! Words, arguments, parameters, conditions and settings of configurations, with the values that they are read as. What a whole
-//! text is answered stands in `tests/check/`.
+//! Words, arguments, parameters, conditions and settings of configurations, with the values that they are read as. The answers to
+//! whole texts are in `tests/check/`.
 //!
 //! Tests alone, of `lb_config_words`, `_arguments`, `_parameters`, `_conditions` and `_lines`.
 #![tactic(auto)]

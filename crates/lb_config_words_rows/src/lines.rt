@@ -7,7 +7,7 @@ use std::process::Abort;
 use std::test::Fail;
 
 /// What the setting of a line is: one that `is_plain` knows by its number; a check by this method, this URI and this version; or a
-/// command socket at this port, or at a path, with words behind its address or without.
+/// command socket at this port, or at a path, with words after its address or without.
 #[derive(Clone, Copy)]
 enum Wanted {
     Plain(u8),
@@ -44,7 +44,7 @@ fn is_check(setting: &Setting, method: &str, uri: &str, version: Version) -> boo
     }
 }
 
-/// Whether the setting is a command socket at this port, or at a path, and whether words stand behind its address.
+/// Whether the setting is a command socket at this port, or at a path, and whether words follow its address.
 fn is_socket(setting: &Setting, port: Option<u16>, has_more: bool) -> bool {
     let Setting::StatsSocket(socket) = setting else {
         return false;

@@ -6,7 +6,7 @@ use std::alloc::Global;
 use std::net::Ipv4Addr;
 use std::test::Fail;
 
-/// The options of the words behind `server` or `default-server`.
+/// The options of the words after `server` or `default-server`.
 fn options(alloc: Global, is_default: bool, text: &str) -> Result<ServerOptions, LineError> {
     let words = words_of(alloc, text)?;
     let mut words = Words::new(alloc, &words, None);

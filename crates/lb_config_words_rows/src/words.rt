@@ -104,7 +104,7 @@ const BROKEN: &[Spelled] = &[
     (b"a \"b\\n\" c", &["a"], BACKSLASH),
     (b"a \"b$c\" d", &["a"], DOLLAR),
     (b"\"$\"", &[], DOLLAR),
-    // A quote that is not closed is told where it opens, so before what stands in it.
+    // A quote that is not closed is reported where it opens, so before what stands in it.
     (b"a \"b$c", &["a"], UNCLOSED),
     (b"a \"b\\n", &["a"], UNCLOSED),
     (b"a \\n\"b", &["a"], BACKSLASH),

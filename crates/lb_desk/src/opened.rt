@@ -10,8 +10,8 @@ use std::alloc::{AllocError, Global};
 use std::hash::BuildHasher;
 
 /// The desk of a backend of the configuration, at its opening: no pin, no connection, no result of a check, version 0. Its journal
-/// keeps as many of the newest entries as the configuration says, 1 to 1000000; the memory for them is taken here, whole. Want of
-/// memory is the one error.
+/// keeps as many of the newest entries as the configuration says, 1 to 1000000; the memory for them is taken here, whole. The only
+/// error is out of memory.
 ///
 /// The hasher finds pins, and no promise depends on it: with a seeded one nobody can choose keys that collide.
 pub fn open<S: BuildHasher + Drop>(
@@ -28,7 +28,7 @@ pub fn open<S: BuildHasher + Drop>(
 /// Opens a desk for a backend of the configuration, takes the events in their order, and gives their replies. It keeps no journal but
 /// the last entry.
 ///
-/// Refused as soon as one of the events is, and for want of memory.
+/// Refused as soon as one of the events is, and when out of memory.
 pub fn run_world<S: BuildHasher + Drop>(
     alloc: Global,
     config: &BackendConfig,

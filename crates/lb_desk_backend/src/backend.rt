@@ -9,7 +9,7 @@ use lb_desk_model::Backend;
 use lb_types::TableSettings;
 use std::alloc::{AllocError, Global};
 
-/// The backend that the machine of a configured backend opens with. The error is want of memory.
+/// The backend that the machine of a configured backend opens with. The only error is out of memory.
 ///
 /// Cost: one allocation, for the servers, which are copied.
 pub fn backend_of(alloc: Global, config: &BackendConfig) -> Result<Backend, AllocError>
@@ -20,7 +20,7 @@ pub fn backend_of(alloc: Global, config: &BackendConfig) -> Result<Backend, Allo
     Ok(Backend::new(config.balance(), config.all_backups(), table, servers))
 }
 
-/// What the machine is told of the table, if there is one.
+/// The table's settings for the machine, if there is a table.
 fn table_of(configured: Option<&StickTable>) -> Option<TableSettings>
     ensures { option_map table_parts result ≡ option_map configured_table (option_copied configured.entry) }
 {

@@ -26,7 +26,7 @@ fn server_of(configured: &ServerConfig) -> BackendServer
     ensures named { is_name result.name ≡ true }
 {
     let name = configured.name();
-    // That its bytes are a name is told by this call.
+    // This call gives the proof that its bytes are a name.
     name.as_bytes();
     BackendServer {
         name,

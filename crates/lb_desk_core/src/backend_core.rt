@@ -31,7 +31,7 @@ impl<S: BuildHasher> Model for Core<S> {
 impl<S: BuildHasher + Drop> Core<S> {
     /// The backend at its opening: no pin, no connection, no result of a check, version 0.
     ///
-    /// It takes memory for the servers, and none for pins yet; want of memory is its one error.
+    /// It allocates memory for the servers, and none for pins yet. The only error is out of memory.
     pub fn open(alloc: Global, backend: &Backend, hasher: S) -> Result<Self, AllocError>
         ensures shown { IfOk result (λ core. core.shown ≡ seen (opening backend.now)) }
         ensures uses { IfOk result (λ core. core.uses ≡ 0) }

@@ -24,8 +24,8 @@ impl<S: BuildHasher> Core<S> {
 
     /// A copy of the pins, which gives them out in order of last use; of none where the backend has no table.
     ///
-    /// It costs one pass through the pins as they stand in memory, with a copy of each key. It takes memory for the pins and for the
-    /// keys that are text, of which want is its one error.
+    /// It costs one pass through the pins as they lie in memory, with a copy of each key. It allocates memory for the pins and for the
+    /// keys that are text. The only error is out of memory.
     pub fn copy_table(&self, alloc: Global) -> Result<TableCopy, AllocError>
         ensures exact { IfOk result (λ copy. copy ≡ self.now.shown.pins) }
     {

@@ -14,7 +14,7 @@ use std::hash::BuildHasher;
 impl<S: BuildHasher> Core<S> {
     /// Takes the result of a check, unless it is refused or ignored.
     ///
-    /// It costs one walk over the servers, and takes no memory.
+    /// It costs one walk over the servers, and allocates nothing.
     pub fn check(&mut self, server: ServerId, ok: bool) -> Reply
         requires { self.old.shown.version < 2 ^ 63 }
         ensures steps { Steps self.old.shown (Event.Check server ok) result self.new.shown }
@@ -31,7 +31,7 @@ impl<S: BuildHasher> Core<S> {
 
     /// Makes the operator's change, unless it is refused.
     ///
-    /// It costs one walk over the servers, and takes no memory.
+    /// It costs one walk over the servers, and allocates nothing.
     pub fn command(&mut self, change: Change) -> Reply
         requires { self.old.shown.version < 2 ^ 63 }
         ensures steps { Steps self.old.shown (Event.Command change) result self.new.shown }
@@ -48,7 +48,7 @@ impl<S: BuildHasher> Core<S> {
 
     /// One connection more at the server, unless it doesn't serve or is full.
     ///
-    /// It costs a few machine instructions, and takes no memory.
+    /// It costs a few machine instructions, and allocates nothing.
     pub fn open_connection(&mut self, server: ServerId) -> Reply
         requires { open_connections self.old.shown + 1 < 2 ^ 64 }
         ensures steps { Steps self.old.shown (Event.Open server) result self.new.shown }
@@ -61,7 +61,7 @@ impl<S: BuildHasher> Core<S> {
 
     /// One connection fewer at the server, if one is open there.
     ///
-    /// It costs a few machine instructions, and takes no memory.
+    /// It costs a few machine instructions, and allocates nothing.
     pub fn close_connection(&mut self, server: ServerId) -> Reply
         ensures steps { Steps self.old.shown (Event.Close server) result self.new.shown }
         ensures connections { open_connections self.new.shown + closed result

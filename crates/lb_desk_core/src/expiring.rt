@@ -24,8 +24,8 @@ impl<S: BuildHasher> Core<S> {
     /// Lets every pin go that wasn't used for as long as the table's `expire` says. Without a table, or without `expire`, none
     /// goes. A moment before that of the latest request served counts as the latest.
     ///
-    /// It costs one look at the pin that wasn't used for longest, a few machine instructions, and taking out each pin that
-    /// goes; where all go and are many, they go at once in one walk that hashes nothing. It takes no memory.
+    /// It costs one look at the pin that wasn't used for longest, a few machine instructions, and taking out each pin that goes. If
+    /// all go and are many, they go together in one walk that hashes nothing. It allocates nothing.
     pub fn expire(&mut self, now: Moment) -> Reply
         requires version { self.old.shown.version < 2 ^ 63 }
         requires uses { self.old.uses ≤ 2 ^ 63 }

@@ -23,13 +23,13 @@ use std::alloc::{AllocError, Global};
 use std::hash::BuildHasher;
 
 impl<S: BuildHasher> Core<S> {
-    /// Makes the moves of the plan: 70 where the plan has another version than the table, 71 with the check's fault where the check
-    /// of the plan against the sheet of the view fails, and then nothing has changed; else the plan's score, and each pin is where
-    /// the plan sends it.
+    /// Makes the moves of the plan, and answers its score; each pin is then where the plan sends it. It answers 70 if the plan has
+    /// another version than the table, else 71 with the check's fault if the plan fails the check against the sheet of the view. In
+    /// both cases nothing has changed.
     ///
-    /// It costs what the sheet, the check and sharing out the moves cost, which don't grow with the pins, and then one walk over
-    /// the pins, which hashes no name and mostly looks at two moves for each pin. It takes memory for all but the walk; want of it is
-    /// the one error, and then nothing has changed.
+    /// It costs what the sheet, the check and sharing out the moves cost, which don't grow with the pins, and then one walk over the
+    /// pins. The walk hashes no name, and mostly looks at two moves for each pin. All but the walk allocates. The only error is out
+    /// of memory, and then nothing has changed.
     pub fn install(&mut self, alloc: Global, plan: &Plan) -> Result<Reply, AllocError>
         requires { self.old.shown.version < 2 ^ 63 }
         ensures steps { IfOk result (λ reply. Steps self.old.shown (Event.Install plan.now) reply self.new.shown) }
@@ -52,7 +52,7 @@ impl<S: BuildHasher> Core<S> {
 }
 
 impl<S: BuildHasher> Parts<S> {
-    /// Sends each pin where the plan says, if the check accepts it, and counts the pins at each server anew. The version isn't
+    /// Sends each pin where the plan says, if the check accepts it, and counts the pins at each server again. The version isn't
     /// counted yet.
     fn install(
         &mut self,

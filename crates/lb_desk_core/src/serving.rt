@@ -25,8 +25,8 @@ impl<S: BuildHasher> Core<S> {
     /// A server for a request. The request is the caller's again as it was.
     ///
     /// It costs at most two look-ups of the pin by hash, and one pick, which looks at each server and each rule at most three
-    /// times. A request without a pin and a pin that stays take no memory, a pin that moves takes some for a count at most, and
-    /// the key is copied only where a pin is made. Want of memory is the one error, and then nothing has changed.
+    /// times. A request without a pin allocates nothing, nor does a pin that stays. A pin that moves allocates for a count at
+    /// most, and the key is copied only when a pin is made. The only error is out of memory, and then nothing has changed.
     pub fn serve(&mut self, request: &mut Request) -> Result<Reply, AllocError>
         requires version { self.old.shown.version < 2 ^ 63 }
         requires uses { self.old.uses < 2 ^ 63 }
@@ -42,7 +42,7 @@ impl<S: BuildHasher> Core<S> {
     }
 }
 
-/// Whether the reply tells that a pin is at another place than before, or wasn't there.
+/// Whether the reply says that a pin is at another place than before, or wasn't there.
 fn moves_pin(reply: &Reply) -> bool
     ensures { result ≡ moves_pin reply.now }
 {
@@ -116,7 +116,7 @@ impl<S: BuildHasher> Parts<S> {
         Reply::Served(server, ServedAs::Loose)
     }
 
-    /// A server for a request whose pin stands in the table.
+    /// A server for a request whose pin is in the table.
     fn serve_by_pin(
         &mut self,
         name: &PinId,

@@ -23,8 +23,8 @@ impl<S: BuildHasher> Core<S> {
     /// permitted servers are those that are usable now.
     ///
     /// It costs a step for each server, and for each place, wanted servers and cost that pins have a binary search among the
-    /// sheet's groups; how many pins there are plays no part. It takes memory for the sheet and for the counts, of which want is
-    /// its one error. The version is at most 2^63.
+    /// sheet's groups. The cost doesn't depend on how many pins there are. It allocates memory for the sheet and for the counts; the
+    /// only error is out of memory. The version is at most 2^63.
     pub fn snapshot(&self, alloc: Global) -> Result<Reply, AllocError>
         requires { self.now.shown.version ≤ 2 ^ 63 }
         ensures steps { IfOk result (λ reply. Steps self.now.shown Event.Snapshot reply self.now.shown) }

@@ -31,7 +31,7 @@ fn weight_of(farm: &[Sketch], server: ServerId) -> u16 {
     }
 }
 
-/// The round's pick, found by walking the clock from the hour behind the cursor.
+/// The round's pick, found by walking the clock from the hour after the cursor.
 fn round_plainly(farm: &[Sketch], candidates: ServerSet, cursor: usize) -> Picked {
     for step in 0..12usize {
         let stand = stand_at(cursor.saturating_add(step));
@@ -93,12 +93,12 @@ fn first_plainly(farm: &[Sketch], candidates: ServerSet) -> Option<ServerId> {
     found
 }
 
-/// What a reader finds. Under `first` weights are of no account, and the cursor stays.
+/// What a reader finds. Under `first` weights don't count, and the cursor stays.
 fn picked_plainly(balance: Balance, farm: &[Sketch], candidates: ServerSet, hour: usize) -> Picked {
     match balance {
         Balance::RoundRobin => round_plainly(farm, candidates, hour),
         Balance::LeastConnections => {
-            // The server behind that of the hour before.
+            // The server after that of the hour before.
             let from = hour.saturating_add(3) / 4;
             let server = least_plainly(farm, candidates, from)?;
             Some((server, Some(Stand { server, turn: 1 })))
@@ -135,7 +135,7 @@ fn picked(
     }
 }
 
-/// The hours that are tried. Under `roundrobin` the cursor may stand behind a server's last stand, as where its weight was lowered.
+/// The hours that are tried. Under `roundrobin` the cursor may stand after a server's last stand, as when its weight was lowered.
 fn hours(balance: Balance) -> &'static [usize] {
     match balance {
         Balance::RoundRobin => &[0, 1, 2, 3, 4, 5, 6, 7, 8, 9, 10, 11, 12],

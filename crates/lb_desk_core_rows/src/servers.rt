@@ -99,7 +99,7 @@ const RESULTS: &[(bool, Flip)] = &[
     (true, Flip::WentUp),
 ];
 
-// At the start one failure is enough, behind a success it takes three in a row. Two successes bring it up.
+// At the start one failure is enough; after a success it takes three in a row. Two successes bring it up.
 #[test]
 fn a_server_goes_down_and_up_by_its_results(rt: HostRuntime) -> Result<(), Fail> {
     let name = Name::read(b"a")?;

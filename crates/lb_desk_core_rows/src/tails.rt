@@ -40,7 +40,7 @@ fn compare(rt: &impl Abort, tail: &mut Tail<char>, row: Row) {
     assert_eq!(rt; ends, (Some('e'), kept.len(), false), "at {capacity}");
 }
 
-/// Adds the log, and tells whether these entries are handed out.
+/// Adds the log, and returns whether these entries are handed out.
 fn hands_out(tail: &mut Tail<char>, wanted: &str) -> bool {
     for (entry, wanted) in LOG.chars().zip(wanted.chars()) {
         if tail.next_number() > 1000 || tail.push(entry).unwrap_or('-') != wanted {

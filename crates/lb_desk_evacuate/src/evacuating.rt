@@ -16,10 +16,10 @@ pub enum Evacuation {
 }
 
 /// Makes plans and hands them in, at most `tries` of them, until the moves of one are made. While it plans, everyone else goes on, and
-/// may change what the plan was made for; only try number `tries` plans while all others wait, so that its plan can't go stale. A
+/// may change what the plan was made for. Only try number `tries` plans while all others wait, so that its plan can't go stale. A
 /// gate is passed between planning and each install, but not in that try. With no try allowed nothing is asked.
 ///
-/// Each try costs a whole planning. It is refused as its mover is, and for want of memory for a plan; what was asked so far stands.
+/// Each try costs a whole planning. It is refused as its mover is, and when out of memory for a plan; what was asked so far stands.
 pub fn evacuate<R, M: Mover<R>, G: Gate<R>>(
     rt: &R,
     alloc: Global,

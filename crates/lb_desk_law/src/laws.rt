@@ -5,8 +5,8 @@ ghost use Rattle.lb_desk_law.specs.LawfulViews.{ViewsAreLawful};
 ghost use Rattle.lb_desk_law.specs.Parts.{PartsAreHistories};
 ghost use Rattle.lb_desk_law.specs.Examples.{RoundOfTwo, RoundOfFewer, LeastOfTwo, FirstOfTwo};
 
-/// Of each install of each history: it is stale exactly where the view has changed, and then changes nothing; else it is
-/// refused exactly as the check refuses it; else each pin is kept, and the new places are lawful and best.
+/// Each install of each history is stale exactly where the view has changed, and then changes nothing. Else it is refused exactly as
+/// the check refuses it. Else each pin is kept, and the new places are lawful and best.
 pub fn installs_are_stale_or_best()
     ensures stale { OfEachInstall IsStaleExactly }
     ensures changed { SinceEachPoint IsStaleOnceChanged }
@@ -27,8 +27,8 @@ pub fn views_are_lawful()
     ensures { ViewsAreLawful }
 {}
 
-/// Where a history is cut, its parts are histories with one state between them, so what is said of a step behind a
-/// history is said of each step of each history.
+/// Wherever a history is cut, its parts are histories with one state between them. So what is said of a step after a history is said
+/// of each step of each history.
 pub fn parts_of_a_history()
     ensures { PartsAreHistories }
 {}

@@ -1,8 +1,8 @@
-//! What the machine of `lb_desk_model` is worth: the laws of whole histories, whoever asked for their events, in whatever
+//! What the machine of `lb_desk_model` is worth: the laws of whole histories, whatever caller asked for their events, in whatever
 //! order. Private to `lb_desk`.
 //!
 //! Promised, in every history: an install answers Stale, and changes nothing, exactly where the view has changed since
-//! the plan's version; an installed plan keeps each pin once, and is best for the view that it met. Each call does
+//! the plan's version. An installed plan keeps each pin once, and is best for the view that it met. Each call does
 //! nothing: its contract is a law. Start at `specs/Headline.antt`.
 #![tactic(auto)]
 

@@ -2,7 +2,7 @@ use lb_types::{Balance, Name, TableSettings};
 use server_state::ServerSettings;
 use std::marker::Model;
 
-/// A server of a backend, as the configuration has it.
+/// A server of a backend, as it is configured.
 #[derive(Clone, Copy, Debug, PartialEq, Eq)]
 pub struct BackendServer {
     pub name: Name,
@@ -32,7 +32,7 @@ impl Backend {
     ghost use Rattle.std.specs.Prelude.{◌≡◌};
     ghost use Rattle.lb_desk_model.specs.Backends.{IsBackend, backend_of_parts};
 
-    /// The backend of these parts, which takes no memory. It has at most 128 servers, in the configuration's order, with
+    /// The backend of these parts, which allocates nothing. It has at most 128 servers, in the configuration's order, with
     /// distinct names. `all_backups` says that all backups are usable together, where only backups are left.
     pub fn new(
         balance: Balance,

@@ -68,7 +68,7 @@ impl Clone for Event {
 
     ghost is_infallible = { IsPlainEvent };
 
-    /// The same event. It costs a copy of a request, or one owner more of a plan; for all others it takes no memory.
+    /// The same event. It costs a copy of a request, or one owner more of a plan; for all others it allocates nothing.
     fn clone(&self) -> Result<Event, AllocError> {
         Ok(match self {
             Event::Serve(request) => Event::Serve(request.clone()?),

@@ -96,7 +96,7 @@ impl Clone for Reply {
 
     ghost is_infallible = { IsPlainReply };
 
-    /// The same reply. It takes no memory: one owner more of a sheet is a step of a counter, and fails at 2^63 - 1 owners.
+    /// The same reply. It allocates nothing: one owner more of a sheet is a step of a counter, and fails at 2^63 - 1 owners.
     fn clone(&self) -> Result<Reply, AllocError> {
         Ok(match self {
             Reply::Served(server, how) => Reply::Served(*server, *how),

@@ -6,7 +6,7 @@ use lb_types::ServerId;
 use std::alloc::AllocError;
 use std::marker::Model;
 
-/// The servers of the `use-server` rules that matched a request, in the rules' order. A server may stand in it twice.
+/// The servers of the `use-server` rules that matched a request, in the rules' order. A server may be in it twice.
 #[derive(Debug, Drop)]
 pub struct RuleList {
     servers: Vec<ServerId>,
@@ -23,7 +23,7 @@ impl Model for RuleList {
 impl RuleList {
     ghost use Rattle.std.specs.Prelude.{◌≡◌};
 
-    /// The list of these servers, which takes no memory.
+    /// The list of these servers, which allocates nothing.
     pub fn new(servers: Vec<ServerId>) -> Self
         ensures { result ≡ servers.items }
     {

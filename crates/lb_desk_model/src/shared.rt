@@ -23,7 +23,7 @@ impl<T> Model for Shared<T> {
 impl<T: Drop> Shared<T> {
     ghost use Rattle.std.specs.Prelude.{◌≡◌, IfOk};
 
-    /// The value, with one owner. It takes memory for the value and its count of owners.
+    /// The value, with one owner. It allocates memory for the value and its count of owners.
     pub fn new(alloc: Global, value: T) -> Result<Self, AllocError>
         ensures { IfOk result (λ shared. shared ≡ value) }
     {

@@ -14,8 +14,8 @@ use lb_desk_model::Stand;
 use lb_types::{ServerId, ServerSet};
 use server_state::Farm;
 
-/// The candidate with the fewest connections for its weight; of several the first behind the cursor's server, going
-/// round. It looks at each server once.
+/// The candidate with the fewest connections for its weight; of several the first after the cursor's server, going round. It looks
+/// at each server once.
 pub(crate) fn least_loaded(
     farm: &Farm,
     book: &Book,
@@ -32,7 +32,7 @@ pub(crate) fn least_loaded(
     freest_between(farm, book, candidates, 0, start, found)
 }
 
-/// The number of the first server behind the cursor's, at most `end`.
+/// The number of the first server after the cursor's, at most `end`.
 fn first_behind(cursor: Option<Stand>, end: usize) -> usize
     ensures exact { result ≡ first_behind cursor end }
     ensures within { result ≤ end }

@@ -1,7 +1,7 @@
 //! Which server a request gets, as a desk decides it that runs: from the farm, the book, the rules and the cursor.
 //!
 //! Promised: `pin_pick` and `loose_pick` pick as the definitions of `lb_desk_model` say, at every state that the desk
-//! shows. A pick takes no memory, and looks at each server at most three times; no pin and no round is gone through.
+//! shows. A pick allocates nothing, and looks at each server at most three times; no pin and no round is gone through.
 //! Private to the `lb_desk` crates. Start at `pin_pick`.
 #![tactic(auto)]
 

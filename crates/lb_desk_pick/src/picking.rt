@@ -14,12 +14,12 @@ use lb_types::{Balance, Place, ServerId, ServerSet};
 use pin_set::permitted;
 use server_state::Farm;
 
-/// The server that a pin gets, and the cursor after it; none where no permitted server has room for the pin.
+/// The server that a pin gets, and the cursor after it; none if no permitted server has room for the pin.
 ///
 /// `rules` are the servers that the request's rules name, in the rules' order. `lost` is the place of the pin that leaves
-/// the table where this one is made, and nowhere where none leaves: at `lost` one pin isn't counted.
+/// the table when this one is made, or nowhere if none leaves: one pin at `lost` isn't counted.
 ///
-/// It takes no memory, and looks at each server and at each rule at most three times.
+/// It allocates nothing, and looks at each server and at each rule at most three times.
 pub fn pin_pick(
     balance: Balance,
     farm: &Farm,
@@ -40,7 +40,7 @@ pub fn pin_pick(
 
 /// The server that a request without a pin gets, and the cursor after it; none where no server is permitted.
 ///
-/// `rules` are the servers that the request's rules name, in the rules' order. It takes no memory, and looks at each
+/// `rules` are the servers that the request's rules name, in the rules' order. It allocates nothing, and looks at each
 /// server at most twice, and at each rule at most three times.
 pub fn loose_pick(
     balance: Balance,

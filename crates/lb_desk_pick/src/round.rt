@@ -12,9 +12,9 @@ use lb_desk_model::Stand;
 use lb_types::{ServerId, ServerSet};
 use server_state::Farm;
 
-/// The next stand of a candidate behind the cursor, going round. It looks at each server at most twice.
+/// The next stand of a candidate after the cursor, going round. It looks at each server at most twice.
 ///
-/// The stands are never written out: behind the cursor come the next turn of its own server, and then first turns alone.
+/// The stands are never written out: after the cursor come the next turn of its own server, and then first turns alone.
 pub(crate) fn next_stand(farm: &Farm, candidates: ServerSet, cursor: Option<Stand>) -> Option<Stand>
     requires { HaveWeights farm.now candidates }
     ensures { (servers : List ServerState) → map seen_server servers ≡ farm.now.servers
@@ -30,7 +30,7 @@ pub(crate) fn next_stand(farm: &Farm, candidates: ServerSet, cursor: Option<Stan
     }
 }
 
-/// The first stand of a candidate behind this one, without going round.
+/// The first stand of a candidate after this one, without going round.
 fn stand_behind(farm: &Farm, candidates: ServerSet, last: Stand) -> Option<Stand>
     requires { HaveWeights farm.now candidates }
     ensures { (servers : List ServerState) → map seen_server servers ≡ farm.now.servers
@@ -69,7 +69,7 @@ fn first_turn(candidates: ServerSet, from: usize, end: usize) -> Option<Stand>
     Some(Stand { server, turn: 1 })
 }
 
-/// The number behind the server's, at most `end`.
+/// The number after the server's, at most `end`.
 pub(crate) fn behind(server: ServerId, end: usize) -> usize
     ensures exact { result ≡ min (server + 1) end }
     ensures within { result ≤ end }

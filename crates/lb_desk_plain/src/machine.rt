@@ -50,8 +50,8 @@ impl Machine {
 
     /// Takes one event, and gives its reply.
     ///
-    /// It fails for want of memory; at a version of 2^63; and where 2^62 connections are open and one more is asked for. It
-    /// copies the state, with all pins and all results of checks, and compares two views: pins times pins.
+    /// It fails when out of memory; at a version of 2^63; and if one more connection is asked for while 2^62 are open. It copies the
+    /// state, with all pins and all results of checks, and compares two views: pins times pins.
     pub fn step(&mut self, alloc: Global, event: &Event) -> Result<Reply, StepFault>
         ensures step { IfOk result (λ reply. Step self.old event.now reply self.new) }
         ensures err { OnErr result (self.new ≡ self.old) }
@@ -66,9 +66,9 @@ impl Machine {
         Ok(reply)
     }
 
-    /// Takes one event as `step` does, but for an install that moves pins, behind which the i-th pin is at the i-th of these places: which
-    /// of the pins of one kind go where is free, and so another machine may have chosen otherwise. None, and nothing has changed, where
-    /// the plan doesn't send as many pins of each kind to each place.
+    /// Takes one event as `step` does. But after an install that moves pins, the i-th pin is at the i-th of these places: which pins
+    /// of one kind go where is free, so another machine may have chosen otherwise. None, and nothing has changed, if the plan doesn't
+    /// send as many pins of each kind to each place.
     pub fn step_at(
         &mut self,
         alloc: Global,

@@ -3,7 +3,7 @@ ghost use Rattle.std.specs.List.Sorted.{IsPermutation};
 
 use pin_set::{Pin, TablePin};
 
-/// Whether the pins are the same but for their order and their last uses. It walks the pins that stand after for each of
+/// Whether the pins are the same except for their order and their last uses. It walks the pins that stand after for each of
 /// those that stood before, whose names are distinct.
 pub(crate) fn same_pins(before: &[TablePin], after: &[TablePin]) -> bool
     requires { AllPairs (λ a b. a.id ≢ b.id) (map (λ p. p.pin) before.now) }

@@ -1,8 +1,8 @@
 //! What each event does to one backend, in its plainest form: lists that each event walks.
 //!
 //! Promised: each event's method of `MachineState` does what the definitions of `lb_desk_model` say of it, refusals among
-//! it, but for the version, which `MachineState` leaves alone. It is slow, and meant to be read: the fast desk is compared
-//! with it. Which server a request gets stands in `lb_desk_plain_picks`. Private to the `lb_desk` crates. Start at
+//! it, except for the version, which `MachineState` leaves alone. It is slow, and meant to be read: the fast desk is compared
+//! with it. Which server a request gets is in `lb_desk_plain_picks`. Private to the `lb_desk` crates. Start at
 //! `MachineState`.
 #![tactic(auto)]
 

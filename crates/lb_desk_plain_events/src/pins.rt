@@ -6,7 +6,7 @@ use lb_types::{Moment, ServerId};
 use pin_set::TablePin;
 use std::alloc::AllocError;
 
-/// Puts the pin at this place, used now, behind the others.
+/// Puts the pin at this place, used now, after the others.
 pub(crate) fn put_last(
     pins: &mut Vec<TablePin>,
     at: usize,

@@ -49,7 +49,7 @@ impl MachineState {
         Ok(Reply::Served(server, ServedAs::Loose))
     }
 
-    /// A server for a request whose pin stands in the table.
+    /// A server for a request whose pin is in the table.
     fn serve_by_pin(
         &mut self,
         alloc: Global,

@@ -10,7 +10,7 @@ use std::marker::Model;
 
 /// All that a backend is at one moment.
 ///
-/// An event's method that fails for want of memory may leave a part of its work done: act on a copy.
+/// An event's method that runs out of memory may leave a part of its work done: act on a copy.
 #[derive(Debug, Drop)]
 pub struct MachineState {
     pub(crate) balance: Balance,

@@ -12,8 +12,8 @@ use lb_desk_model::Stand;
 use lb_types::{Balance, ServerId, ServerSet};
 use std::alloc::{AllocError, Global};
 
-/// The candidate that the balance says, and the cursor after it. There is none where no candidate has a place to be
-/// picked at. It fails where there is no memory for the round, which it writes out.
+/// The candidate that the balance says, and the cursor after it. There is none if no candidate has a place to be picked at. It fails
+/// if there is no memory for the round, which it writes out.
 pub fn balanced(
     alloc: Global,
     balance: Balance,

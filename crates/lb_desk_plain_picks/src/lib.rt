@@ -1,7 +1,7 @@
 //! The servers of one backend in their plainest form, and which of them a request gets.
 //!
 //! Promised: `balanced` picks as the definitions of `lb_desk_model` say, and a `Server` changes as they say. Each check's
-//! result is kept in a list, and each pick writes the round out: this is the part of the plain machine, `lb_desk_plain`,
+//! result is kept in a list, and each pick writes the round out. This is the part of the plain machine, `lb_desk_plain`,
 //! that knows no pins' names and no moments. Private to the `lb_desk` crates. Start at `balanced`.
 #![tactic(auto)]
 

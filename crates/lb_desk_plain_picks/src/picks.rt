@@ -35,7 +35,7 @@ fn push_stands(all: &mut Vec<Stand>, server: ServerId, weight: u16) -> Result<()
     Ok(())
 }
 
-/// The next of the stands whose server is a candidate, behind the cursor and going round.
+/// The next of the stands whose server is a candidate, after the cursor and going round.
 pub(crate) fn next_stand(
     stands: &[Stand],
     candidates: ServerSet,
@@ -87,7 +87,7 @@ fn is_behind(cursor: &Option<Stand>, stand: &Stand) -> bool
     at < to || (at == to && cursor.turn < stand.turn)
 }
 
-/// The candidate with the fewest connections for its weight; of several the first behind the cursor's, going round.
+/// The candidate with the fewest connections for its weight; of several the first after the cursor's, going round.
 pub(crate) fn least_loaded(
     servers: &[Server],
     all: &[ServerId],

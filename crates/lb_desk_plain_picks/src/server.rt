@@ -50,7 +50,7 @@ impl Model for Server {
 }
 
 impl Server {
-    /// The server as the configuration has it: no result has come, and no connection is open. It takes no memory.
+    /// The server as it is configured: no result has come, and no connection is open. It allocates nothing.
     pub fn at_start(alloc: Global, server: &BackendServer) -> Self
         ensures { result ≡ server_at_start server.now }
     {
@@ -70,7 +70,7 @@ impl Server {
         }
     }
 
-    /// The same server once more, which takes memory for its results.
+    /// The same server once more, which allocates memory for its results.
     pub fn copied(&self, alloc: Global) -> Result<Self, AllocError>
         ensures { IfOk result (λ copy. copy ≡ self.now) }
     {
@@ -234,7 +234,7 @@ impl Server {
         self.admin.is_maint()
     }
 
-    /// Takes the result of a check, which counts where the server is checked, and tells what it changed.
+    /// Takes the result of a check, which counts if the server is checked, and returns what it changed.
     pub fn take(&mut self, ok: bool) -> Result<Flip, AllocError>
         ensures { IfOk result (λ flip. (checks : Checks) → self.old.checks ≡ Some checks
             → (flip ≡ flip_between (is_healthy checks) (is_healthy (with_result checks ok)))

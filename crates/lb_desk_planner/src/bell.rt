@@ -6,7 +6,7 @@ use std::alloc::{AllocError, Global};
 use std::marker::Model;
 use std::sync::Wait;
 
-/// What tells a planner that there may be pins to move. Each thread has its own.
+/// Signals to a planner that there may be pins to move. Each thread has its own.
 #[derive(Debug, Drop)]
 pub struct Bell {
     to: Sender<()>,
@@ -37,8 +37,8 @@ impl Bell {
         Ok((Bell { to }, Notices { from, heard: 0 }))
     }
 
-    /// Tells the planner. It doesn't wait for it: a ring that finds one that wasn't heard yet is one notice with it, and where nobody
-    /// hears any more nothing happens. It costs a lock that is never held for long.
+    /// Notifies the planner, and doesn't wait for it. A ring that finds another one not heard yet is one notice with it. If nobody
+    /// hears any more, nothing happens. It costs a lock that is never held for long.
     pub fn ring<R: Wait>(&self, rt: &R) {
         let _ = self.to.try_send(rt, ());
     }

@@ -1,7 +1,7 @@
-//! A planner that works when it is told: the rounds of its thread, without the thread.
+//! A planner that works when it is notified: the rounds of its thread, without the thread.
 //!
 //! Promised: `plan_when_told` asks its `Mover` for one evacuation for each notice that it hears, one after another, and for nothing
-//! else. Bells tell it, from any thread and without waiting; rings that nobody has heard yet are one notice. Once all bells are
+//! else. Bells notify it, from any thread and without waiting; rings that nobody has heard yet are one notice. Once all bells are
 //! gone, and the last notice is heard, it returns. Start at `plan_when_told`, whose words are in `specs/Told.antt`.
 #![tactic(auto)]
 

@@ -10,7 +10,7 @@ use std::sync::Wait;
 /// For each notice makes one evacuation, with at most `tries` plans, and returns once all bells are gone.
 ///
 /// An evacuation that is refused is over: what it asked so far stands, the next notice begins another, and the mover counts the call
-/// that was refused. Whatever was changed before a bell was rung is seen by an evacuation behind it.
+/// that was refused. Whatever was changed before a bell was rung is seen by an evacuation after it.
 pub fn plan_when_told<R: Wait, M: Mover<R>, G: Gate<R>>(
     rt: &R,
     alloc: Global,

@@ -3,15 +3,15 @@ ghost use Rattle.lb_desk_ports.specs.Calls.{Grows};
 
 use lb_types::Moment;
 
-/// What tells the moments of requests, and lets time pass.
+/// Gives the moments of requests, and lets time pass.
 pub trait Clock<R> {
-    /// The moments that were told, in their order, as far as they are recorded.
+    /// The moments that were returned, in their order, as far as they are recorded.
     ghost told: { Self → Option (List ℕ) };
 
     /// The milliseconds of each pause, in their order, as far as they are recorded.
     ghost pauses: { Self → Option (List ℕ) };
 
-    /// The moment now. A clock that can't be read tells the moment that it told last, and 0 at first.
+    /// The moment now. A clock that can't be read returns the moment that it returned last, and 0 at first.
     fn now(&mut self, rt: &R) -> Moment
         ensures told { Grows (told self.old) (told self.new) (result ∷ []) }
         ensures pauses { pauses self.new ≡ pauses self.old };

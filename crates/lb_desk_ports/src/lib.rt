@@ -1,7 +1,7 @@
 //! What engines and threads know of a backend, of time, and of the places where a test can hold them.
 //!
-//! Promised: a `Port` (for requests and checks) and a `Mover` (for planners) tell which events each call made and what was
-//! replied, as entries of the backend's journal, and count the calls that were refused. A `Clock` tells its moments and
+//! Promised: a `Port` (for requests and checks) and a `Mover` (for planners) state which events each call made and what was
+//! replied, as entries of the backend's journal, and count the calls that were refused. A `Clock` states its moments and
 //! pauses as far as these are recorded. So a function that is generic over them can say in its contract what it asked for, in
 //! which order, and what came back. `ScriptedPort`, `ScriptedMover`, `ScriptedClock` and `OpenGate` are theirs for tests.
 //! Start at `Port`, whose words are in `specs/Ports.antt`.

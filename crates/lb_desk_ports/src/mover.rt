@@ -8,9 +8,9 @@ use dual_cert_plan::{Plan, Sheet};
 use lb_desk_model::Shared;
 use pin_set::Score;
 
-/// A backend, as a planner sees it. A call that is refused for want of memory or wear makes no event.
+/// A backend, as a planner sees it. A call that is refused when out of memory or as `Worn` makes no event.
 pub trait Mover<R> {
-    /// The events that were made through this mover, each with its reply, in their order. They stand in the backend's journal,
+    /// The events that were made through this mover, each with its reply, in their order. They are in the backend's journal,
     /// those of others between them.
     ghost entries: { Self → List Entry };
 

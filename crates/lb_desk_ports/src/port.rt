@@ -7,13 +7,13 @@ use crate::{Asked, Filed, Opening, Refused, Shut};
 use lb_desk_model::Request;
 use lb_types::ServerId;
 
-/// A backend, as one who serves requests or files checks sees it. Each call makes events, one step of the backend each; a call
-/// that is refused for want of memory or wear makes none, but for the first of the two of `ask`.
+/// A backend, as a caller that serves requests or files checks sees it. Each call makes events, one step of the backend each. A call
+/// that is refused when out of memory or as `Worn` makes none, except for the first of the two of `ask`.
 pub trait Port<R> {
-    /// A connection that is open at a server. It can't be dropped: whoever got it gives it back.
+    /// A connection that is open at a server. It can't be dropped: the caller that got it gives it back.
     type Slot;
 
-    /// The events that were made through this port, each with its reply, in their order. They stand in the backend's journal,
+    /// The events that were made through this port, each with its reply, in their order. They are in the backend's journal,
     /// those of others between them.
     ghost entries: { Self → List Entry };
 

@@ -17,7 +17,7 @@ pub enum Refused {
 impl Refused {
     ghost use Rattle.lb_desk_ports.specs.Calls.{refused_number};
 
-    /// The number of the refusal in answers to operators, and none for want of memory.
+    /// The number of the refusal in answers to operators, and none when out of memory.
     pub fn number(self) -> Option<u16>
         ensures { result ≡ refused_number self }
     {

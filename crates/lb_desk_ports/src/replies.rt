@@ -62,7 +62,7 @@ pub enum Installing {
 }
 
 impl Asked {
-    /// The answer as the journal has it.
+    /// The answer as the journal records it.
     pub fn reply(&self) -> Reply
         ensures { result ≡ asked_reply self.now }
     {
@@ -75,7 +75,7 @@ impl Asked {
 }
 
 impl<S> Opening<S> {
-    /// The answer as the journal has it.
+    /// The answer as the journal records it.
     pub fn reply(&self) -> Reply
         ensures { result ≡ opening_reply self.now }
     {
@@ -88,7 +88,7 @@ impl<S> Opening<S> {
 }
 
 impl Shut {
-    /// The answer as the journal has it.
+    /// The answer as the journal records it.
     pub fn reply(self) -> Reply
         ensures { result ≡ shut_reply self }
     {
@@ -100,7 +100,7 @@ impl Shut {
 }
 
 impl Filed {
-    /// The answer as the journal has it.
+    /// The answer as the journal records it.
     pub fn reply(self) -> Reply
         ensures { result ≡ filed_reply self }
     {
@@ -113,7 +113,7 @@ impl Filed {
 }
 
 impl Installing {
-    /// The answer as the journal has it.
+    /// The answer as the journal records it.
     pub fn reply(self) -> Reply
         ensures { result ≡ installing_reply self }
     {

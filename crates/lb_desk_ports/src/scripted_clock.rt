@@ -28,7 +28,7 @@ impl ScriptedClock {
         }
     }
 
-    /// The moments that it told, in milliseconds.
+    /// The moments that it returned, in milliseconds.
     pub fn told(&self) -> Option<&[u64]>
         ensures { option_map (λ told. told.now) result ≡ ⟦<ScriptedClock as Clock<()>>⟧.told self.now }
     {

@@ -11,16 +11,16 @@ use std::alloc::Global;
 /// What a `ScriptedMover` answers.
 #[derive(Clone, Copy, Debug, PartialEq, Eq)]
 pub struct MoverScript<'a> {
-    /// To the plans that are handed in, in turn. Those behind the last are installed.
+    /// To the plans that are handed in, in turn. Those after the last are installed.
     pub installs: &'a [Installing],
-    /// The score of a plan that is installed behind these, or at once.
+    /// The score of a plan that is installed after these, or at once.
     pub score: Score,
     /// The event that is refused, counted from 0, and how.
     pub refusing: Option<(u64, Refused)>,
 }
 
 /// A mover for tests, which answers by a script and keeps its entries. Each sheet that it gives is the same, and so is each
-/// plan that it makes. Want of memory is a refusal.
+/// plan that it makes. Out of memory is a refusal.
 #[derive(Debug, Drop)]
 pub struct ScriptedMover<'a> {
     script: MoverScript<'a>,

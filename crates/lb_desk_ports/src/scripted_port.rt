@@ -22,7 +22,7 @@ pub enum ScriptedOpening {
 pub struct PortScript<'a> {
     /// To each request for a server.
     pub asked: Asked,
-    /// To the requests for a connection, in turn. Those behind the last are opened.
+    /// To the requests for a connection, in turn. Those after the last are opened.
     pub openings: &'a [ScriptedOpening],
     /// To each connection that is given back.
     pub shut: Shut,
@@ -32,7 +32,7 @@ pub struct PortScript<'a> {
     pub refusing: Option<(u64, Refused)>,
 }
 
-/// A port for tests, which answers by a script and keeps its entries. Want of memory for these is a refusal.
+/// A port for tests, which answers by a script and keeps its entries. Out of memory for these is a refusal.
 #[derive(Debug, Drop)]
 pub struct ScriptedPort<'a> {
     script: &'a PortScript<'a>,

@@ -23,7 +23,7 @@ fn the_plain_machine_answers_in_one_run(rt: HostRuntime) -> Result<(), Fail> {
     Ok(())
 }
 
-/// The machine's replies, and its version behind them.
+/// The machine's replies, and its version after them.
 fn run(alloc: Global, entries: &[Entry]) -> Result<(Vec<Reply>, u64), Fail> {
     let backend = two(alloc)?;
     let mut machine = Machine::open(alloc, &backend)?;
@@ -45,7 +45,7 @@ fn a_desk_answers_event_by_event(rt: HostRuntime) -> Result<(), Fail> {
     compare(&rt, &entries, &mut desk)
 }
 
-// A function that has a desk of its own, and many calls behind which it would end, takes the prover minutes. So it is lent out.
+// A function that has a desk of its own, and many calls after which it would end, takes the prover minutes. So it is lent out.
 fn compare(rt: &impl Abort, entries: &[Entry], desk: &mut HashedDesk) -> Result<(), Fail> {
     for (number, entry) in entries.iter().enumerate() {
         let reply = told(desk, &entry.event)?;

@@ -12,10 +12,10 @@ use std::test::Fail;
 /// How many entries there are. The last two ask for the same.
 pub(crate) const COUNT: usize = 20;
 
-/// The version behind the last of them: two pins are made, `a` goes, and a plan moves a pin.
+/// The version after the last of them: two pins are made, `a` goes, and a plan moves a pin.
 pub(crate) const VERSION: u64 = 4;
 
-/// What a planner finds behind `a`'s leave, with the best plan: the pin that is at `a` goes to `b`.
+/// What a planner finds after `a` leaves, with the best plan: the pin that is at `a` goes to `b`.
 const PLAN: &[u8] =
     b"stickyplan 1\nversion 3\nserver a off\nserver b cap 5 price 0\nrow 1 a b b\nrow 1 b b b\nend\n";
 

@@ -1,7 +1,7 @@
 //! One thread's place at a shared desk: a port for requests and checks, a mover for plans, a steer for an operator's commands.
 //!
-//! Promised: what a `Seat` tells by the contracts of `Port`, `Mover` and `Steer` is what its pass has receipts of: its entries are
-//! those of the pass, in their order, and so stand in the desk's one history. It holds the desk for the length of a call and no
+//! Promised: what a `Seat` states by the contracts of `Port`, `Mover` and `Steer` is what its pass has receipts of. Its entries are
+//! those of the pass, in their order, and so are in the desk's one history. It holds the desk for the length of a call and no
 //! longer. Start at `Seat`, whose words are in `specs/Seats.antt`.
 #![tactic(auto)]
 

@@ -38,7 +38,7 @@ impl<'a, S: BuildHasher, B: Naming> Model for Seat<'a, S, B> {
 }
 
 impl<'a, S: BuildHasher, B: Naming> Seat<'a, S, B> {
-    /// A seat at the desk, with a pass of that desk. It takes no memory; `alloc` gives memory for the plans that it hands in.
+    /// A seat at the desk, with a pass of that desk. It allocates nothing; `alloc` gives memory for the plans that it hands in.
     pub fn new(alloc: Global, desk: &'a SharedDesk<S, B>, pass: Pass<Entry, B>) -> Self
         requires { pass.keeper ≡ desk.now }
         ensures { result ≡ new_seat pass }

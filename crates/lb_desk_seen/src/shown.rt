@@ -2,8 +2,8 @@ ghost use Rattle.lb_desk_seen.specs.Changes.{SettingsAreSeen, ResultsAreSeen, Se
 ghost use Rattle.lb_desk_seen.specs.Replies.{RepliesTellViews, RepliesTellVersions};
 ghost use Rattle.lb_desk_seen.specs.Reached.{OpeningIsShown, StepsAreShown, OldestIsForgotten, ShownViewsAreLawful};
 
-/// Seeing a server after a change, a check's result or a connection is changing what is seen of it; a state's view, and
-/// whether it changes, can be told from what is seen.
+/// Seeing a server after a change, a check's result or a connection is changing what is seen of it. A state's view, and whether it
+/// changes, follow from what is seen.
 pub fn changes_are_seen()
     ensures settings { SettingsAreSeen }
     ensures results { ResultsAreSeen }
@@ -13,8 +13,8 @@ pub fn changes_are_seen()
     ensures counted { ActsAreCounted }
 {}
 
-/// Whether an event behind a history changed the view, and so the version, is told by its reply: a pin was moved or made,
-/// pins went, a plan moved some, or other servers are usable or another capacity is set.
+/// The reply to an event after a history says whether the event changed the view, and so the version. It did exactly where a pin was
+/// moved or made, pins went, a plan moved some, or other servers are usable or another capacity is set.
 pub fn replies_tell_changes()
     ensures views { RepliesTellViews }
     ensures versions { RepliesTellVersions }

@@ -1,8 +1,8 @@
-//! What a running desk does where an event meets its servers alone: checks, commands, and connections that open and close.
+//! What a running desk does when an event concerns only its servers: checks, commands, and connections that open and close.
 //!
-//! Promised: each event is a step, with the reply that is given, of every state that the desk shows; only the servers
+//! Promised: each event is a step, with the reply that is given, of every state that the desk shows. Only the servers
 //! change, and the version exactly as the definitions of `lb_desk_model` count it, though no view is ever made. No event
-//! takes memory. Private to the `lb_desk` crates. Start at `specs/Shown.antt`.
+//! allocates. Private to the `lb_desk` crates. Start at `specs/Shown.antt`.
 #![tactic(auto)]
 
 mod changes;

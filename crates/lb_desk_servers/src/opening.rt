@@ -16,7 +16,7 @@ pub struct Opening {
 
 /// The backend's servers at its opening: as they are configured, with no result of a check, no pin and no connection.
 ///
-/// It takes memory for them, which is all that they ever have; want of memory is its one error.
+/// It allocates memory for them, which is all that they ever have. The only error is out of memory.
 pub fn open_servers(alloc: Global, backend: &Backend) -> Result<Opening, AllocError>
     ensures farm { IfOk result (λ servers. servers.farm ≡ (seen (opening backend.now)).farm) }
     ensures connections { IfOk result

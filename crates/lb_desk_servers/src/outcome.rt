@@ -11,7 +11,7 @@ pub struct Outcome {
     pub changes_view: bool,
 }
 
-/// The version behind an event, which is one more where the event changes the view.
+/// The version after an event, which is one more if the event changes the view.
 pub fn counted(version: u64, changes_view: bool) -> u64
     requires { version < 2 ^ 63 }
     ensures { result ≡ counted version changes_view }

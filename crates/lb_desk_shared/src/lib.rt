@@ -1,14 +1,13 @@
-//! The running desk of one backend that many threads use: each call of theirs has a receipt, and all receipts stand in one
+//! The running desk of one backend that many threads use: each call of theirs has a receipt, and all receipts are in one
 //! history.
 //!
 //! A `SharedDesk` is a desk under a lock. Each caller enters once and has a `Pass`, which goes with each of its calls and keeps
 //! their receipts. At the end `SharedDesk::close` takes all passes back.
 //!
-//! Promised: a call that is answered adds a receipt for its event and the reply to the caller's pass, and a call that is refused
-//! adds none; and `Closes`, of `SharedDesk::close`: the journal is the end of a history of the backend from its opening on,
-//! which the receipts of all passes share out, each at its own number, and at whose end no connection is open. Start at
-//! `SharedDesk`; its words are in `specs/Calls.antt` and `specs/Closing.antt`. Private to the `lb_desk` crates, programs and
-//! tests aside.
+//! Promised: a call that is answered adds a receipt for its event and the reply to the caller's pass; a call that is refused adds
+//! none. `SharedDesk::close` promises `Closes`: the journal is the end of a history of the backend from its opening on. The receipts
+//! of all passes share out that history, each at its own number, and at its end no connection is open. Start at `SharedDesk`; its
+//! words are in `specs/Calls.antt` and `specs/Closing.antt`. Private to the `lb_desk` crates, programs and tests aside.
 #![tactic(auto)]
 
 mod closing;

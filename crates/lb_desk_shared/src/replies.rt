@@ -7,8 +7,8 @@ use lb_desk_model::{Refusal, Reply};
 use lb_desk_ports::{Opening, Shut};
 use lb_types::ServerId;
 
-/// What the reply says to a request for a connection to the server, with the slot of the connection where one is open. None where
-/// no such request is replied to so.
+/// What the reply says to a request for a connection to the server, with the slot of the connection if one is open. None if no such
+/// request is replied to so.
 pub(crate) fn opening_of(reply: &Reply, desk: u64, server: ServerId) -> Option<Opening<Slot>>
     ensures reply { IfSome result (λ opening. opening_reply opening ≡ reply.now) }
     ensures desk { IfSome result (λ opening. IfOpen opening (λ slot. slot.desk ≡ desk)) }
@@ -23,7 +23,7 @@ pub(crate) fn opening_of(reply: &Reply, desk: u64, server: ServerId) -> Option<O
     }
 }
 
-/// What the reply says to the end of a connection. None where no such end is replied to so.
+/// What the reply says to the end of a connection. None if no such end is replied to so.
 pub(crate) fn shut_of(reply: &Reply) -> Option<Shut>
     ensures reply { IfSome result (λ shut. shut_reply shut ≡ reply.now) }
     ensures none { IsNone result → answers_close reply.now ≡ false }

@@ -26,11 +26,11 @@ use std::hash::BuildHasher;
 use std::marker::Model;
 use std::sync::{Mutex, MutexGuard, Wait};
 
-/// The running desk of one backend, for many threads. Contracts see it as its number, which tells it from a program's other
-/// desks.
+/// The running desk of one backend, for many threads. Contracts see it as its number, which distinguishes it from a program's
+/// other desks.
 ///
 /// Each call waits for the desk and holds it once, for one step of the backend, and `plan_now` for two. What a hold has to drop,
-/// as an entry that leaves a full journal, is dropped behind it.
+/// as an entry that leaves a full journal, is dropped after it.
 #[derive(Drop)]
 pub struct SharedDesk<S: BuildHasher, B: Naming> {
     number: u64,
@@ -65,7 +65,7 @@ impl<S: BuildHasher, B: Naming> SharedDesk<S, B> {
         self.number
     }
 
-    /// A pass for one more caller, with no receipt. It is no event, and takes no memory.
+    /// A pass for one more caller, with no receipt. It is no event, and allocates nothing.
     ///
     /// Refused as `Worn` once 2^64 - 1 passes were given out.
     pub fn enter<R: Wait>(&self, rt: &R) -> Result<Pass<Entry, B>, Refused>
@@ -77,7 +77,7 @@ impl<S: BuildHasher, B: Naming> SharedDesk<S, B> {
     /// Takes the event as one step of the backend, and gives the pass its receipt. It copies no event, and is meant for the path of
     /// a request. It costs what the event costs at `Desk::advance`, a lock, and a few atomic steps.
     ///
-    /// Refused, for want of memory and as `Worn` (81), exactly where `Desk::advance` is.
+    /// Refused, when out of memory and as `Worn` (81), exactly where `Desk::advance` is.
     pub fn tell<R: Wait>(
         &self,
         rt: &R,
@@ -98,7 +98,7 @@ impl<S: BuildHasher, B: Naming> SharedDesk<S, B> {
     }
 
     /// Takes the event as `tell` does, and hands out its receipt. It costs a copy of the event on top, which is made before the desk
-    /// is held, and whose want of memory is one more refusal.
+    /// is held. It is also refused if there is no memory for that copy.
     pub fn call<R: Wait>(
         &self,
         rt: &R,
@@ -119,7 +119,7 @@ impl<S: BuildHasher, B: Naming> SharedDesk<S, B> {
 
     /// Opens a connection to the server, at most as many as its `maxconn` says.
     ///
-    /// Refused as `Worn` (81) exactly where `Desk::advance` is; want of memory never comes.
+    /// Refused as `Worn` (81) exactly where `Desk::advance` is; it never runs out of memory.
     pub fn open<R: Wait>(
         &self,
         rt: &R,
@@ -140,7 +140,7 @@ impl<S: BuildHasher, B: Naming> SharedDesk<S, B> {
 
     /// Ends the connection. The slot is spent, whatever the answer.
     ///
-    /// An open connection is always ended, since its event needs no memory and has its room at a worn desk.
+    /// An open connection is always ended, since its event needs no memory and has its room at an exhausted desk.
     pub fn shut<R: Wait>(
         &self,
         rt: &R,
@@ -162,7 +162,7 @@ impl<S: BuildHasher, B: Naming> SharedDesk<S, B> {
     /// Takes a sheet, makes a plan for it and installs that, all in one hold, so that no plan can go stale. The others wait for as
     /// long as a whole planning takes.
     ///
-    /// Refused for want of memory, and as `Worn` (81) where the second of the two events would be; then nothing has changed.
+    /// Refused when out of memory, and as `Worn` (81) where the second of the two events would be; then nothing has changed.
     pub fn plan_now<R: Wait>(&self, rt: &R, pass: &mut Pass<Entry, B>) -> Result<Score, Refused>
         requires { pass.old.keeper ≡ self.now }
         ensures { ReceivesPlan pass.old pass.new result }
@@ -175,9 +175,9 @@ impl<S: BuildHasher, B: Naming> SharedDesk<S, B> {
 
     /// Copies of the pins at one moment, in order of last use, the one that wasn't used for longest first. It is no event.
     ///
-    /// The others wait for one pass through the pins as they stand in memory, with a copy of each key. They don't wait while the pins
+    /// The others wait for one pass through the pins as they lie in memory, with a copy of each key. They don't wait while the pins
     /// are put into order of last use, which takes longer and copies each key once more. For a moment there is memory for two lists
-    /// of the pins. Want of memory is its one error.
+    /// of the pins. The only error is out of memory.
     pub fn rows<R: Wait>(&self, rt: &R, alloc: Global) -> Result<Vec<TablePin>, AllocError>
         ensures { IfOk result (λ rows. HasPins (B.opening self.now) rows.items) }
     {
@@ -189,7 +189,7 @@ impl<S: BuildHasher, B: Naming> SharedDesk<S, B> {
 
     /// A copy of the journal at one moment. It is no event.
     ///
-    /// The others wait while each entry is copied. Want of memory is its one error.
+    /// The others wait while each entry is copied. The only error is out of memory.
     pub fn entries<R: Wait>(&self, rt: &R, alloc: Global) -> Result<JournalCopy, AllocError>
         ensures { IfOk result (λ copy. HasJournal (B.opening self.now) copy.first copy.entries.items) }
     {
@@ -209,10 +209,10 @@ impl<S: BuildHasher, B: Naming> SharedDesk<S, B> {
 }
 
 impl<S: BuildHasher + Drop, B: Naming> SharedDesk<S, B> {
-    /// Closes the desk with all passes that it gave out. It costs a few machine instructions a pass, and takes no memory.
+    /// Closes the desk with all passes that it gave out. It costs a few machine instructions a pass, and allocates nothing.
     ///
-    /// Refused with 82 where fewer passes come back than were given out, and else with 83 where a connection is open. Then the desk
-    /// and the passes are handed back as they were.
+    /// Refused with 82 if fewer passes come back than were given out, and else with 83 if a connection is open. Then the desk and the
+    /// passes are handed back as they were.
     pub fn close(self, passes: Vec<Pass<Entry, B>>) -> Result<Closing, StillOut<S, B>>
         requires { AreOf self passes.items }
         ensures closes { IfOk result (λ closing. Closes (B.opening self) passes.items closing) }

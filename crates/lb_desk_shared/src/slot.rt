@@ -2,7 +2,7 @@ ghost use Rattle.std.specs.Prelude.{◌≡◌};
 
 use lb_types::ServerId;
 
-/// A connection that is open at a server of one desk. It can't be dropped: whoever got it gives it back to that desk, by
+/// A connection that is open at a server of one desk. It can't be dropped: the caller that got it gives it back to that desk, by
 /// `SharedDesk::shut`.
 #[derive(Debug)]
 pub struct Slot {
@@ -25,7 +25,7 @@ impl Slot {
         self.server
     }
 
-    /// Gives the slot up, and tells the server. The connection stays open at its desk for ever, which then can't be closed (83).
+    /// Gives the slot up, and returns the server. The connection stays open at its desk for ever, which then can't be closed (83).
     pub fn give_up(self) -> ServerId
         ensures { result ≡ self.server }
     {

@@ -21,7 +21,7 @@ use std::process::Abort;
 use std::sync::Wait;
 use std::test::Fail;
 
-/// What the journal has behind the calls below.
+/// What the journal has after the calls below.
 const ENTRIES: &[Kind] = &[
     // as a port
     Kind::Expire,

@@ -28,7 +28,7 @@ pub(crate) fn two_servers(alloc: Global) -> Result<Backend, Fail> {
     Ok(Backend::new(Balance::RoundRobin, false, table, servers))
 }
 
-/// A table of ten pins, which lets none go for want of use.
+/// A table of ten pins, none of which expires.
 fn table() -> Option<TableSettings> {
     Some(TableSettings {
         size: 10,

@@ -30,7 +30,7 @@ const TURNS: u32 = 10_000;
 #[derive(Clone, Copy, Debug)]
 struct Row {
     tries: u32,
-    /// A new key for each time that the planner stands in its gate, and the number of its request in the desk's history.
+    /// A new key for each time that the planner is in its gate, and the number of its request in the desk's history.
     requests: &'static [(&'static str, u64)],
     /// What the journal has then.
     kinds: &'static [Kind],

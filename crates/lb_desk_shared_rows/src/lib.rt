@@ -1,5 +1,5 @@
-//! Worked rows of the desk of many threads: what several threads did at it is done again by one, and must be answered the same; and of
-//! seats at such a desk, a planner that clients come in beside among them.
+//! Worked rows of the desk of many threads: what several threads did at it is done again by one, and must be answered the same. And
+//! worked rows of seats at such a desk, among them a planner that clients come in beside.
 //!
 //! Tests alone, of `lb_desk_shared`, `lb_desk_seat` and `lb_desk_planner`. Start at `threads` and `calls`.
 #![tactic(auto)]

@@ -1,4 +1,4 @@
-//! A planner that is told, while traffic goes on.
+//! A planner that is notified, while traffic goes on.
 ghost use Rattle.std.specs.Prelude.{◌≡◌};
 
 use crate::desks::shared;

@@ -9,11 +9,11 @@ use pin_set::TablePin;
 use server_state::Change;
 use std::alloc::{AllocError, Global};
 
-/// A backend, as one sees it who carries out an operator's commands. A call that is refused for want of memory or wear makes no
-/// event.
+/// A backend, as a caller that carries out an operator's commands sees it. A call that is refused when out of memory or for wear
+/// makes no event.
 pub trait Steer<R>: Mover<R> {
-    /// Makes the change to a server, and answers `Reply::Done`; or `Reply::Refused`, and nothing is changed: 10, there is no such
-    /// server; 12, its health is set and it isn't checked; 11, the number is out of range.
+    /// Makes the change to a server, and answers `Reply::Done`. Or it changes nothing and answers `Reply::Refused`: 10, there is no
+    /// such server; 12, its health is set and it isn't checked; 11, the number is out of range.
     fn command(&mut self, rt: &R, change: Change) -> Result<Reply, Refused>
         ensures entries { Self.entries self.new ≡ Self.entries self.old ++ commanding_entries change result }
         ensures refusals { Self.refusals self.new ≡ after_call result (Self.refusals self.old) }
@@ -22,13 +22,13 @@ pub trait Steer<R>: Mover<R> {
     /// Copies of the table's pins as they stand now, in order of last use, the one that wasn't used for longest first; none where
     /// the backend has no table. It is no event, and no use of any pin.
     ///
-    /// It costs one pass through the pins while no event is taken, one walk over them behind that, and a copy of each key in either.
-    /// Refused for want of memory alone.
+    /// It costs one pass through the pins while no event is taken, one walk over them after that, and a copy of each key in either.
+    /// Refused only when out of memory.
     fn rows(&self, rt: &R, alloc: Global) -> Result<Vec<TablePin>, AllocError>;
 
     /// A copy of what the backend's journal keeps now. It is no event.
     ///
-    /// It costs one walk over the entries while no event is taken, and a copy of each key and of each list of rules. Refused for
-    /// want of memory alone.
+    /// It costs one walk over the entries while no event is taken, and a copy of each key and of each list of rules. Refused only
+    /// when out of memory.
     fn journal(&self, rt: &R, alloc: Global) -> Result<JournalCopy, AllocError>;
 }

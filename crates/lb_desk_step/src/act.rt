@@ -31,7 +31,7 @@ pub(crate) fn answer<S: BuildHasher>(
     ensures same { event.new ≡ event.old }
 {
     let reply = act(core, alloc, event)?;
-    // It can fail at a sheet alone, behind which the core is as it was.
+    // Only the copy of a sheet can fail, and after a sheet the core is as it was.
     let copy = reply.clone()?;
     Ok((reply, copy))
 }

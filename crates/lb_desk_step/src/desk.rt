@@ -19,7 +19,7 @@ use std::alloc::{AllocError, Global};
 use std::hash::BuildHasher;
 use std::marker::Model;
 
-/// At so many events and open connections a desk is worn: one event more for each open connection still fits into 64 bits.
+/// At so many events and open connections a desk is exhausted: one event more for each open connection still fits into 64 bits.
 const WORN: u64 = 1 << 63;
 
 /// One backend as it runs: its servers, its table of pins, and the journal of its events.
@@ -46,7 +46,7 @@ impl<S: BuildHasher> Model for Desk<S> {
 
 impl<S: BuildHasher + Drop> Desk<S> {
     /// The desk of a backend at its opening. Its journal keeps so many of the newest entries, 1 or more; the memory for them is
-    /// taken here, whole. Want of memory is the one error.
+    /// taken here, whole. The only error is out of memory.
     ///
     /// The hasher finds pins, and no promise depends on it.
     pub fn open(
@@ -82,8 +82,8 @@ impl<S: BuildHasher> Desk<S> {
     /// Takes the event as one step of the backend, and journals it with its reply. It costs what the event costs at the core, and
     /// a few machine instructions.
     ///
-    /// Refused for want of memory, as a Serve, a Snapshot or an Install may be, and as `Worn` (81) exactly where `is_worn` tells
-    /// it; then nothing has changed. The end of an open connection is never refused.
+    /// Refused when out of memory, as a Serve, a Snapshot or an Install may be, and as `Worn` (81) exactly where `is_worn` says so;
+    /// then nothing has changed. The end of an open connection is never refused.
     pub fn advance(&mut self, mut event: Event) -> Result<Taken, Refused>
         ensures takes { IfOk result (λ taken. Takes self.old event taken.reply self.new) }
         ensures forgotten { IfOk result (λ taken. option_to_list taken.forgotten
@@ -120,7 +120,7 @@ impl<S: BuildHasher> Desk<S> {
     /// Takes a sheet, makes a plan for it and installs that, while nobody else gets in: two events in one go, after which the table is
     /// best for the view that it had. It costs a whole planning.
     ///
-    /// Refused for want of memory, and as `Worn` (81) exactly where the second event would be; then nothing has changed.
+    /// Refused when out of memory, and as `Worn` (81) exactly where the second event would be; then nothing has changed.
     pub fn plan_now(&mut self) -> Result<Score, Refused>
         ensures plans { IfOk result (λ score. PlansNow self.old score self.new) }
         ensures worn { IsErrOf result Refused.Worn ↔ (is_worn_for_two self.old ≡ true) }
@@ -165,8 +165,8 @@ impl<S: BuildHasher> Desk<S> {
         })
     }
 
-    /// Whether the event would be refused as worn: so many events were taken and so many connections are open that together they
-    /// come to 2^63, and the event isn't the end of one of these.
+    /// Whether the event would be refused as `Worn`: the events taken and the connections open are together 2^63 or more, and the
+    /// event isn't the end of one of these connections.
     pub fn is_worn(&self, event: &Event) -> bool
         ensures { result ≡ is_worn_for self.now event.now }
     {
@@ -197,11 +197,11 @@ impl<S: BuildHasher> Desk<S> {
         self.connections
     }
 
-    /// A copy of the pins, which gives them out in order of last use; of none where the backend has no table. It is no event, and no
-    /// use of any pin.
+    /// A copy of the pins, which gives them out in order of last use; of none if the backend has no table. It is no event, and no use
+    /// of any pin.
     ///
-    /// It costs one pass through the pins as they stand in memory, with a copy of each key, and hashes nothing; to put them into
-    /// order is left to the copy. It takes memory for the pins and for the keys that are text, of which want is its one error.
+    /// It costs one pass through the pins as they lie in memory, with a copy of each key, and hashes nothing. Putting them in order
+    /// is left to the copy. It allocates memory for the pins and for the keys that are text. The only error is out of memory.
     pub fn copy_table(&self, alloc: Global) -> Result<TableCopy, AllocError>
         ensures exact { IfOk result (λ copy. copy ≡ self.now.shown.pins) }
     {
@@ -211,8 +211,8 @@ impl<S: BuildHasher> Desk<S> {
     /// Copies of the pins, in order of last use, the one that wasn't used for longest first; none where the backend has no table.
     /// It is no event, and no use of any pin.
     ///
-    /// They are the rows of `copy_table`, which is what to hold a lock for. Each key is copied twice, and nothing is hashed. It takes
-    /// memory for two lists of the pins and for the keys that are text, of which want is its one error.
+    /// They are the rows of `copy_table`, which is what to hold a lock for. Each key is copied twice, and nothing is hashed. It
+    /// allocates memory for two lists of the pins and for the keys that are text. The only error is out of memory.
     pub fn table_rows(&self, alloc: Global) -> Result<Vec<TablePin>, AllocError>
         ensures exact { IfOk result (λ rows. rows.items ≡ self.now.shown.pins) }
     {

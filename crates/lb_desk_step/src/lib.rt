@@ -1,9 +1,9 @@
-//! The running desk of one backend: one event is one step of its machine, and stands in its journal with its reply.
+//! The running desk of one backend: one event is one step of its machine, and is in its journal with its reply.
 //!
-//! Promised: an event is refused for want of memory, or with 81 exactly where the desk is worn, and then changes nothing; else
-//! it is a step, with the reply that is given, of every state that the desk shows, and its entry is the newest of the
-//! journal, which is the end of the log of all events that were taken. So what is proved of logs holds of every journal. Private
-//! to the `lb_desk` crates. Start at `Desk`, whose words are in `specs/Desk.antt`.
+//! Promised: an event is refused when out of memory, or with 81 exactly where the desk is exhausted, and then changes nothing. Else it
+//! is a step, with the reply that is given, of every state that the desk shows. Its entry is the newest of the journal, which is the
+//! end of the log of all events that were taken. So what is proved of logs holds of every journal. Private to the `lb_desk` crates.
+//! Start at `Desk`, whose words are in `specs/Desk.antt`.
 #![tactic(auto)]
 
 mod act;

@@ -9,7 +9,7 @@ use std::hash::BuildHasher;
 
 /// Opens a desk for the backend, takes the events in their order, and gives their replies. It keeps no journal but the last entry.
 ///
-/// Refused as soon as one of the events is, and for want of memory for the replies.
+/// Refused as soon as one of the events is, and when out of memory for the replies.
 pub fn run_world<S: BuildHasher + Drop>(
     alloc: Global,
     backend: &Backend,

@@ -11,7 +11,7 @@ use std::marker::Model;
 
 /// The newest entries of a log, at most as many as its capacity, and the number of the first of them.
 ///
-/// Each call but `new` costs a few machine instructions and takes no memory.
+/// Each call but `new` costs a few machine instructions and allocates nothing.
 #[derive(Debug, Drop)]
 pub struct Tail<E> {
     kept: VecDeque<E>,

@@ -10,7 +10,7 @@ use std::marker::{Model, PhantomData};
 
 /// Knows the whole history, and what it gave out. It lies beside the journal, under one lock with it.
 ///
-/// No call takes memory, and none but `settle` costs more than a few machine instructions and one to three atomic steps.
+/// No call allocates, and none but `settle` costs more than a few machine instructions and one to three atomic steps.
 #[derive(Drop)]
 pub struct Keeper<E, B: Tables> {
     number: u64,

@@ -1,4 +1,4 @@
-//! Receipts: every call that a journal records has a number, and who called can show at the end that all of them stand
+//! Receipts: every call that a journal records has a number, and the callers can show at the end that all of them are
 //! in one history, each at its own number.
 //!
 //! A `Keeper` lies beside a journal, under one lock, and knows the whole history as ghost data. Each caller has a `Pass`,

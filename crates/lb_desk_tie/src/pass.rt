@@ -80,7 +80,7 @@ impl<E, B: Tables> Pass<E, B> {
         self.next = number + 1;
     }
 
-    /// The pass comes back to its keeper, and tells whether its numbers rise.
+    /// Gives the pass back to its keeper, and returns whether its numbers rise.
     pub(crate) fn take_into(self, word: &Word<E>, seat: &mut KeeperSeat<E>) -> bool
         requires table { seat.old.table_id ≡ B.table_of self.keeper }
         requires word { seat.old.table_id ≡ word.now.shared.table_id }

@@ -92,7 +92,7 @@ impl Events {
         ServerId::new((number % 128) as u8)
     }
 
-    /// An event that takes no memory.
+    /// An event that allocates nothing.
     fn small_event(&mut self, kind: u32) -> Event {
         if kind < 54 {
             Event::Open(self.server())

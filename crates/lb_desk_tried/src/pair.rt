@@ -86,8 +86,8 @@ impl<S: BuildHasher + Drop> Pair<S> {
         Ok(())
     }
 
-    /// The machine's reply. Where pins moved at the desk, the machine's move to the same places; there is no reply where these aren't
-    /// the plan's.
+    /// The machine's reply. If pins moved at the desk, the machine's move to the same places. There is no reply if these aren't the
+    /// plan's.
     fn plain_reply(
         &mut self,
         alloc: Global,

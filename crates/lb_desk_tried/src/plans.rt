@@ -12,8 +12,8 @@ const PRICE: usize = 5;
 
 const PLACE: usize = 3;
 
-/// The plan under this version, with the last word of one of its lines, or where one of its rows goes, perhaps changed; none where that
-/// is no plan.
+/// The plan under this version. The last word of one of its lines, or the place that one of its rows goes to, may be changed. None if
+/// that is no plan.
 pub(crate) fn changed(
     alloc: Global,
     dice: &mut Dice,

@@ -9,7 +9,7 @@ use std::hash::BuildHasher;
 /// How many events each farm gets.
 const EVENTS: u64 = 400;
 
-/// All pins and the journal are compared behind so many events, and behind each install.
+/// All pins and the journal are compared after so many events, and after each install.
 const ROWS: u64 = 16;
 
 /// How many entries the desks' journals keep: one or two, more than is looked at between two comparisons and fewer than there are
@@ -89,7 +89,7 @@ struct Found {
     difference: Difference,
 }
 
-// A function that has a pair of its own, and many calls behind which it would end, takes the prover minutes. So the pair is lent out.
+// A function that has a pair of its own, and many calls after which it would end, takes the prover minutes. So the pair is lent out.
 fn try_text<S: BuildHasher + Drop + Copy>(
     alloc: Global,
     hasher: S,
@@ -126,7 +126,7 @@ fn try_pair<S: BuildHasher + Drop>(
     Ok(None)
 }
 
-/// Hands one event to the pair, and tells in what the two differ.
+/// Hands one event to the pair, and returns in what the two differ.
 fn try_event<S: BuildHasher + Drop>(
     alloc: Global,
     events: &mut Events,
@@ -144,7 +144,7 @@ fn try_event<S: BuildHasher + Drop>(
     hidden_difference(alloc, pair)
 }
 
-/// Whether all pins and the journal are compared behind the event of this number.
+/// Whether all pins and the journal are compared after the event of this number.
 fn looks(number: u64, reply: &Reply) -> bool {
     number % ROWS == 0 || number.saturating_add(1) == EVENTS || is_installed(reply)
 }

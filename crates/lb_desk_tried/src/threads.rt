@@ -34,7 +34,7 @@ const ENTRIES: u64 = 2;
 /// How many calls a thread makes at most beyond those that it is asked for, since a request takes up to four.
 const MORE: u64 = 3;
 
-/// How many entries a journal keeps at most. Where there are more, it is told as not whole.
+/// How many entries a journal keeps at most. If there are more, it is reported as not whole.
 const MOST_ENTRIES: u64 = 100_000_000;
 
 /// What the threads did, and what came of it.
@@ -186,7 +186,7 @@ fn finish<B: Naming>(
     })
 }
 
-/// Closes the desk with its passes, and tells how many events it took, and what is wrong with its journal.
+/// Closes the desk with its passes. Returns how many events it took, and what is wrong with its journal.
 fn close<B: Naming>(
     alloc: Global,
     desk: SharedDesk<RandomState, B>,

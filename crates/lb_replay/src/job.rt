@@ -22,11 +22,11 @@ use std::hash::{BuildHasher, BuildHasherDefault, FoldHasher};
 use std::io::{BufRead, Write};
 
 /// Opens the one backend with servers of a configuration, hands in what the script asks for, line by line, and prints one answer for
-/// each thing. Tells whether nothing hindered it.
+/// each thing. Returns whether nothing prevented it.
 ///
-/// A configuration's fault is printed on `out` as `check` prints it; `err` is told where none or several backends have servers, and at
-/// the first bad line of the script, behind which nothing is read. Refusals are answers like others. Nothing is flushed: give it
-/// writers that buffer.
+/// A configuration's fault is printed on `out` as `check` prints it. A line on `err` says that none or several backends have servers,
+/// or which line of the script is the first bad one; nothing is read after that line. Refusals are answers like others. Nothing is
+/// flushed: give it writers that buffer.
 ///
 /// Each line and each plan's text is held whole; so are the pins, the journal and the sheets of the script's snapshots. An event costs
 /// what it costs the backend, and `install` and `plan` a whole planning.
@@ -54,7 +54,7 @@ pub fn replay<S: BufRead + Drop, O: Write, E: Write>(
     }
 }
 
-/// Replays the script at the backend, and tells the number of its first bad line.
+/// Replays the script at the backend, and returns the number of its first bad line.
 fn replay_at<S: BufRead + Drop, O: Write>(
     alloc: Global,
     config: &Config,
@@ -78,7 +78,7 @@ fn replay_at<S: BufRead + Drop, O: Write>(
     replay_lines(alloc, &farm, &mut day, script, out)
 }
 
-/// Answers the script's pieces, one after another, up to the first bad line, whose number is told.
+/// Answers the script's pieces, one after another, up to the first bad line, whose number it returns.
 fn replay_lines<H: BuildHasher, S: BufRead + Drop, O: Write>(
     alloc: Global,
     farm: &Farm<'_>,
@@ -122,7 +122,7 @@ fn tell_fault<O: Write>(
     }
 }
 
-/// Tells on standard error what hinders the replay.
+/// Writes to standard error what prevents the replay.
 fn complain<E: Write>(err: &mut E, line: &[u8]) -> Result<bool, JobError>
     ensures told { OnOk result (Appends (E.contents err.old) (E.contents err.new) line.now) }
     ensures whole { IfOk result (λ is_whole. is_whole ≡ false) }

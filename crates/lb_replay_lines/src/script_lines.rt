@@ -33,7 +33,7 @@ impl<S: BufRead> Model for ScriptLines<S> {
 }
 
 impl<S: BufRead> ScriptLines<S> {
-    /// The script before its first line. Takes no memory.
+    /// The script before its first line. Allocates nothing.
     pub fn new(alloc: Global, script: S) -> Self
         ensures { result ≡ unread (option_map lines_of (S.remaining script)) }
     {
@@ -45,7 +45,7 @@ impl<S: BufRead> ScriptLines<S> {
         }
     }
 
-    /// Reads the next line, and tells whether there was one. What was read before is dropped, and its memory used again.
+    /// Reads the next line, and returns whether there was one. What was read before is dropped, and its memory used again.
     pub fn next_line(&mut self) -> io::Result<bool>
         ensures line { IfOk result (λ has_line. has_line ≡ true → ReadsLine self.old self.new) }
         ensures end { IfOk result (λ has_line. has_line ≡ false → IsReadWhole self.old.left) }
@@ -58,7 +58,7 @@ impl<S: BufRead> ScriptLines<S> {
         Ok(true)
     }
 
-    /// Reads the lines of a plan's text behind its first one: through the line `end`, or all that are left where there is none.
+    /// Reads the lines of a plan's text after its first one: through the line `end`, or all that are left if there is none.
     pub fn read_plan_text(&mut self) -> io::Result<()>
         ensures added { OnOk result (AddsThroughEnd self.old.left self.old self.new) }
         ensures first { OnOk result (self.new.first ≡ self.old.first) }
@@ -99,7 +99,7 @@ impl<S: BufRead> ScriptLines<S> {
         }
     }
 
-    /// Adds the next line to what was read, and tells whether there was one.
+    /// Adds the next line to what was read, and returns whether there was one.
     fn add_line(&mut self) -> io::Result<bool>
         ensures line { IfOk result (λ has_line. has_line ≡ true
             → AddsLine self.old.left self.old.piece self.new.piece self.new.left) }

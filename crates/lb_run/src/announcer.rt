@@ -6,8 +6,8 @@ use lb_desk_planner::Bell;
 use std::alloc::{AllocError, Global};
 use std::sync::Wait;
 
-/// Tells where a check makes a server of a backend go up or down: the backend's planner, if it has one, and whoever reads standard
-/// error. A line that there is no memory for is left out.
+/// Announces a check that makes a server of a backend go up or down: to the backend's planner, if it has one, and on standard error.
+/// A line that there is no memory for is left out.
 #[derive(Drop)]
 pub(crate) struct Announcer<'a> {
     pub(crate) alloc: Global,

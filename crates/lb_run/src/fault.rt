@@ -18,7 +18,7 @@ pub enum RunFault {
     /// A desk can't be closed. No run is known that ends so.
     #[error("a backend can't be closed")]
     StillOpen(CloseFault),
-    /// What is told at the end can't be written.
+    /// What is printed at the end can't be written.
     #[error("the answer can't be written")]
     CannotWrite,
 }

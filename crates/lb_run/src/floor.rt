@@ -1,5 +1,6 @@
 ghost use Rattle.std.specs.Prelude.{◌≡◌, length, IfOk};
 
+use http_relay_work::Roster;
 use lb_config::{BackendConfig, Config};
 use lb_desk_ports::Refused;
 use lb_desk_seat::Seat;
@@ -8,7 +9,7 @@ use lb_run_desks::PassBox;
 use std::alloc::{AllocError, Global};
 use std::hash::RandomState;
 use std::sync::Wait;
-use std::sync::atomic::{AtomicBool, Ordering};
+use std::sync::atomic::{AtomicBool, AtomicUsize, Ordering};
 use std::time::Instant;
 
 /// A thread's place at a desk of this balancer.
@@ -22,6 +23,10 @@ pub(crate) struct Floor<'a, B: Naming, G: Drop> {
     /// The desks of the configuration's backends, in their order.
     pub(crate) desks: &'a [SharedDesk<RandomState, B>],
     pub(crate) passes: &'a PassBox<B>,
+    /// In which workers note whether they have a request.
+    pub(crate) roster: &'a Roster,
+    /// How many listeners may hand on clients.
+    pub(crate) listeners: &'a AtomicUsize,
     /// Is set where the balancer ends.
     pub(crate) stop: &'a AtomicBool,
     /// Is set where a thread had not memory enough to begin.
@@ -34,9 +39,10 @@ pub(crate) struct Floor<'a, B: Naming, G: Drop> {
 }
 
 impl<'a, B: Naming, G: Drop> Floor<'a, B, G> {
-    /// Tells all threads to end.
+    /// Asks all threads to end.
     pub(crate) fn stop(&self) {
         self.stop.store(true, Ordering::SeqCst);
+        self.roster.ring();
     }
 
     /// Ends the balancer, since a thread can't begin.

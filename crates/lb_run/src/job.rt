@@ -6,7 +6,7 @@ use std::alloc::Global;
 use std::fs::Files;
 use std::io::Write;
 
-/// Runs the configuration that the text is, and tells whether all went well. A configuration's fault is printed on `out` as `check`
+/// Runs the configuration that the text is, and returns whether all went well. A configuration's fault is printed on `out` as `check`
 /// prints it, and an address that can't be bound on `err`. Memory, reading and writing fail as in other jobs.
 pub fn run_text<R: Host + Files, O: Write, E: Write>(
     rt: &R,
@@ -49,7 +49,7 @@ fn run_and_tell<R: Host + Files, O: Write, E: Write>(
     }
 }
 
-/// Tells what hindered the job, which then wasn't done.
+/// Writes what prevented the job, which then wasn't done.
 fn write_line<W: Write>(to: &mut W, line: &[u8]) -> Result<bool, JobError> {
     match to.write_all(line) {
         Ok(()) => Ok(false),

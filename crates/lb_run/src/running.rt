@@ -6,6 +6,7 @@ use crate::floor::Floor;
 use crate::starting::start_and_answer;
 use crate::{Host, RunFault, SharedGate};
 use command_socket_listen::CommandListener;
+use http_relay_work::{MOST_ON_CALL, Roster};
 use lb_config::Config;
 use lb_desk_ports::{OpenGate, Refused};
 use lb_desk_shared::{Naming, SharedDesk};
@@ -16,15 +17,15 @@ use std::fs::Files;
 use std::hash::RandomState;
 use std::io::Write;
 use std::marker::Brand;
-use std::sync::atomic::{AtomicBool, Ordering};
+use std::sync::atomic::{AtomicBool, AtomicUsize, Ordering};
 use std::thread;
 use std::time::Instant;
 
 /// Balances the load of a configuration until the command `stop` comes over its command socket; without a socket, for ever. At the end
 /// a line `closed web events 15 rising yes` is written for each backend, in the configuration's order.
 ///
-/// All addresses are bound before anything runs. Standard error is told where clients can connect, and where a check makes a server go
-/// up or down. Requests whose head was read are finished before the end.
+/// All addresses are bound before anything runs. Standard error lists where clients can connect, and reports when a check makes a
+/// server go up or down. Requests whose head was read are finished before the end.
 pub fn run_config<R: Host + Files, W: Write>(
     rt: &R,
     alloc: Global,
@@ -70,10 +71,10 @@ fn run_named<R: Host + Files, B: Naming + Send + Sync, G: SharedGate<R>, W: Writ
     close_all(alloc, config, desks, passes.into_passes(), out)
 }
 
-/// How many passes the threads have together: each worker and the operators' thread one at each desk, and each desk's checks and
-/// planner one.
+/// How many passes the threads have together at most: each worker, those on call included, and the operators' thread one at each desk, and
+/// each desk's checks and planner one.
 fn most_passes(config: &Config) -> usize {
-    (usize::from(config.relays()) + 3).saturating_mul(config.backends().len())
+    (usize::from(config.relays()) + MOST_ON_CALL + 3).saturating_mul(config.backends().len())
 }
 
 /// Runs all threads, and returns once all of them have ended and the operators' address is free again.
@@ -91,11 +92,15 @@ fn serve<R: Host + Files, B: Naming + Send + Sync, G: SharedGate<R>>(
 {
     let stop = AtomicBool::new(false);
     let starved = AtomicBool::new(false);
+    let roster = Roster::new(alloc, config.relays())?;
+    let listeners = AtomicUsize::new(0);
     let floor = Floor {
         alloc,
         config,
         desks,
         passes,
+        roster: &roster,
+        listeners: &listeners,
         stop: &stop,
         starved: &starved,
         start,

@@ -1,6 +1,7 @@
 //! Starting threads. Each runs in the scope that it is given, and ends by the flag of the floor or by the end of a channel.
 use crate::announcer::say;
 use crate::bells::Bells;
+use crate::calling::call_workers;
 use crate::commands::answer_operators;
 use crate::floor::Floor;
 use crate::threads::{check, listen, plan, relay};
@@ -8,6 +9,7 @@ use crate::{Host, SharedGate};
 use command_socket_listen::CommandListener;
 use crossbeam_channel::{Receiver, Sender, bounded};
 use http_relay_lobby::{Arrival, waiting_line};
+use http_relay_work::MOST_ON_CALL;
 use lb_config::BackendConfig;
 use lb_desk_planner::Bell;
 use lb_desk_ports::Refused;
@@ -37,7 +39,8 @@ pub(crate) fn start_and_answer<'s, E, R: Host, B: Naming + Send + Sync, G: Share
     let (_quit, ends) = bounded(floor.alloc, 1)?;
     let bells = start_planners(rt, scope, floor)?;
     start_checks(rt, scope, floor, &bells, ends)?;
-    start_workers(rt, scope, floor, arrivals)?;
+    start_workers(rt, scope, floor, &arrivals)?;
+    start_calls(rt, scope, floor, arrivals)?;
     start_listeners(rt, scope, floor, doors, to)?;
     match operators {
         Some(listener) => answer_operators(rt, floor, listener, Bells { rt, bells }),
@@ -48,7 +51,7 @@ pub(crate) fn start_and_answer<'s, E, R: Host, B: Naming + Send + Sync, G: Share
     }
 }
 
-/// Tells on standard error where clients can connect.
+/// Writes to standard error where clients can connect.
 fn say_listening<R: Host>(rt: &R, alloc: Global, doors: &[ClientDoor]) -> Result<(), AllocError> {
     for door in doors {
         let mut line = Vec::new(alloc);
@@ -127,16 +130,29 @@ fn start_workers<'s, E, R: Host, B: Naming + Send + Sync, G: SharedGate<R>>(
     rt: &'s R,
     scope: &'s Scope<'s, E>,
     floor: &'s Floor<'s, B, G>,
-    arrivals: Receiver<Arrival<TcpStream>>,
+    arrivals: &Receiver<Arrival<TcpStream>>,
 ) -> Result<(), AllocError> {
-    for _ in 0..floor.config.relays() {
+    for place in 0..usize::from(floor.config.relays()) {
         let arrivals = arrivals.clone()?;
-        scope.spawn(move || relay(rt, floor, arrivals))?;
+        floor.roster.enter();
+        scope.spawn(move || relay(rt, floor, arrivals, place))?;
     }
     Ok(())
 }
 
-/// Starts a listener at each door. `to` goes with them, so that the workers end behind the last of them.
+/// Starts the thread that calls workers while too few are at work.
+fn start_calls<'s, E, R: Host, B: Naming + Send + Sync, G: SharedGate<R>>(
+    rt: &'s R,
+    scope: &'s Scope<'s, E>,
+    floor: &'s Floor<'s, B, G>,
+    arrivals: Receiver<Arrival<TcpStream>>,
+) -> Result<(), AllocError> {
+    let (to, calls) = bounded(floor.alloc, MOST_ON_CALL)?;
+    scope.spawn(move || call_workers(rt, scope, floor, arrivals, to, calls))?;
+    Ok(())
+}
+
+/// Starts a listener at each door. `to` goes with them, so that the workers end after the last of them.
 fn start_listeners<'s, E, R: Host, B: Naming + Send + Sync, G: SharedGate<R>>(
     rt: &'s R,
     scope: &'s Scope<'s, E>,

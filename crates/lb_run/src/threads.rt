@@ -10,12 +10,13 @@ use check_workers_targets::{checks_of, targets_of};
 use crossbeam_channel::{Receiver, Sender};
 use http_relay_lobby::{Arrival, MOST_GUESTS, Rules, gather_until_stopped};
 use http_relay_system::SystemClock;
-use http_relay_work::{Relay, work};
+use http_relay_work::{Post, Relay, work};
 use lb_desk_planner::{Bell, Notices, plan_when_told};
 use lb_desk_ports::Refused;
 use lb_desk_shared::Naming;
 use lb_run_doors::ClientDoor;
 use std::net::TcpStream;
+use std::sync::atomic::Ordering;
 
 /// Accepts the clients of a frontend, and hands on those whose heads are whole, until the balancer ends.
 pub(crate) fn listen<R: Host, B: Naming, G: Drop>(
@@ -35,9 +36,11 @@ pub(crate) fn listen<R: Host, B: Naming, G: Drop>(
         silence: limits.read,
         most_guests: MOST_GUESTS,
     };
+    floor.listeners.fetch_add(1, Ordering::SeqCst);
     if gather_until_stopped(rt, floor.alloc, listener, rules, floor.stop, to).is_err() {
         floor.starve();
     }
+    floor.listeners.fetch_sub(1, Ordering::SeqCst);
 }
 
 /// Serves clients until no listener is left and no client waits.
@@ -45,17 +48,52 @@ pub(crate) fn relay<R: Host, B: Naming, G: SharedGate<R>>(
     rt: &R,
     floor: &Floor<'_, B, G>,
     arrivals: Receiver<Arrival<TcpStream>>,
+    place: usize,
 ) {
-    let Ok(seats) = floor.seats(rt) else {
+    let post = Post::at_the_line(floor.roster, place);
+    if serve_at(rt, floor, &arrivals, post).is_err() {
         floor.starve();
-        return;
+    }
+}
+
+/// The same for a worker on call. One that there is no memory for is left out.
+pub(crate) fn relay_on_call<R: Host, B: Naming, G: SharedGate<R>>(
+    rt: &R,
+    floor: &Floor<'_, B, G>,
+    arrivals: Receiver<Arrival<TcpStream>>,
+    place: usize,
+    calls: Receiver<()>,
+) {
+    let _ = serve_at(
+        rt,
+        floor,
+        &arrivals,
+        Post::on_call(floor.roster, place, &calls),
+    );
+}
+
+/// Serves clients at this post, from the worker's first seat to its last pass.
+fn serve_at<R: Host, B: Naming, G: SharedGate<R>>(
+    rt: &R,
+    floor: &Floor<'_, B, G>,
+    arrivals: &Receiver<Arrival<TcpStream>>,
+    post: Post<'_>,
+) -> Result<(), Refused> {
+    let seats = match floor.seats(rt) {
+        Ok(seats) => seats,
+        Err(refused) => {
+            floor.roster.leave();
+            return Err(refused);
+        }
     };
     let relay = Relay {
         config: floor.config,
         start: floor.start,
     };
-    let seats = work(rt, floor.alloc, relay, &arrivals, floor.gate, seats);
+    let seats = work(rt, floor.alloc, relay, arrivals, post, floor.gate, seats);
     floor.leave_all(rt, seats);
+    floor.roster.leave();
+    Ok(())
 }
 
 /// Checks the servers of the backend at this place until the balancer ends.

@@ -17,7 +17,7 @@ pub enum ClosedDesk {
     Open(CloseFault),
 }
 
-/// Closes the desk with those of the passes that are its own; the others are left. Want of memory is the one error.
+/// Closes the desk with those of the passes that are its own; the others are left. The only error is out of memory.
 ///
 /// It costs a look at each pass.
 pub fn close_desk<S: BuildHasher + Drop, B: Naming>(
@@ -56,7 +56,7 @@ fn take_own<B: Naming>(
 }
 
 /// The line that says that the desk of this backend is closed, with the number of all its events, and whether the numbers of each pass
-/// rose. The error is want of memory.
+/// rose. The only error is out of memory.
 pub fn closed_line(alloc: Global, backend: &[u8], closing: &Closing) -> Result<Vec<u8>, AllocError>
     ensures { IfOk result (λ line. line.items ≡ closed_line backend.now closing.now) }
 {

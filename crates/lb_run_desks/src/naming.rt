@@ -6,7 +6,7 @@ use lb_desk_shared::{Naming, SharedDesk};
 use std::alloc::{AllocError, Global};
 use std::hash::BuildHasher;
 
-/// The desks for many threads, each numbered by its place. Want of memory is the one error.
+/// The desks for many threads, each numbered by its place. The only error is out of memory.
 pub fn named_desks<S: BuildHasher + Drop, B: Naming>(
     alloc: Global,
     news: Vec<NewDesk<S>>,

@@ -33,7 +33,7 @@ impl<S: BuildHasher> Model for NewDesk<S> {
 }
 
 impl<S: BuildHasher + Drop> NewDesk<S> {
-    /// Opens the backend. Its journal takes its memory here, whole. Want of memory is the one error.
+    /// Opens the backend. Its journal takes its memory here, whole. The only error is out of memory.
     pub fn open(alloc: Global, config: &BackendConfig, hasher: S) -> Result<Self, AllocError>
         ensures { IfOk result (λ new. IsBackendOf config.now new.backend) }
     {
@@ -64,7 +64,7 @@ impl<S: BuildHasher> NewDesk<S> {
     }
 }
 
-/// Opens each of the backends, in their order. All desks find their pins by one hasher. Want of memory is the one error.
+/// Opens each of the backends, in their order. All desks find their pins by one hasher. The only error is out of memory.
 pub fn new_desks(
     alloc: Global,
     backends: &[BackendConfig],

@@ -44,7 +44,7 @@ impl ClientDoor {
         }
     }
 
-    /// Its address, as it is printed. The error is want of memory.
+    /// Its address, as it is printed. The only error is out of memory.
     pub fn address_text(&self, alloc: Global) -> Result<Vec<u8>, AllocError> {
         endpoint_text(alloc, self.endpoint)
     }
@@ -60,7 +60,7 @@ fn limits_of(frontend: &Frontend) -> StreamLimits
     }
 }
 
-/// The address and the port, as `127.0.0.1:80`. The error is want of memory.
+/// The address and the port, as `127.0.0.1:80`. The only error is out of memory.
 pub(crate) fn endpoint_text(alloc: Global, endpoint: Endpoint) -> Result<Vec<u8>, AllocError> {
     let address = SocketAddrV4::new(endpoint.address, endpoint.port);
     let text = address.to_string(alloc)?;

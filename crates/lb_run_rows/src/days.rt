@@ -10,7 +10,7 @@ use std::sync::atomic::{AtomicBool, Ordering};
 use std::test::Fail;
 use std::thread::join;
 
-/// A client that says who it is.
+/// A client that names itself.
 const FROM_K1: &[u8] = b"GET / HTTP/1.1\r\nHost: x\r\nx-id: k1\r\n\r\n";
 
 const FROM_A: &[u8] = b"HTTP/1.0 200 OK\r\nContent-Length: 1\r\n\r\na";

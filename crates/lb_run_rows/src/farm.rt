@@ -32,7 +32,7 @@ pub(crate) fn free_port<R: Host>(rt: &R) -> Result<u16, Fail> {
     Ok(listener.local_addr()?.port())
 }
 
-/// An origin that answers each request with this text, until it is told to end.
+/// An origin that answers each request with this text, until `end` is set.
 pub(crate) fn originate<R: Host>(
     rt: &R,
     listener: TcpListener,

@@ -6,7 +6,7 @@ use lb_types_counted::Counted;
 use std::io::ErrorKind;
 use std::test::Fail;
 
-/// How a read fails, and how that is told.
+/// How a read fails, and how that is reported.
 const BREAKS: [(ErrorKind, JobError); 2] = [
     (ErrorKind::IsADirectory, JobError::CannotRead),
     (ErrorKind::OutOfMemory, JobError::OutOfMemory),

@@ -18,7 +18,7 @@ const ANSWER: &[u8] = b"HTTP/1.0 200 OK\r\nContent-Length: 1\r\n\r\na";
 
 const FROM_K1: &[u8] = b"GET / HTTP/1.1\r\nHost: x\r\nx-id: k1\r\n\r\n";
 
-// Clients who are new to the balancer.
+// Clients that are new to the balancer.
 const NEWCOMERS: [&[u8]; 2] = [
     b"GET / HTTP/1.1\r\nHost: x\r\nx-id: k2\r\n\r\n",
     b"GET / HTTP/1.1\r\nHost: x\r\nx-id: k3\r\n\r\n",
@@ -27,8 +27,8 @@ const NEWCOMERS: [&[u8]; 2] = [
 // How many milliseconds somebody waits for the other at most.
 const MOST_WAIT: u32 = 5000;
 
-// The events of which no other thread may come in between, by their words, and how their lines end. Each new pin makes the version one more,
-// and so does the drain.
+// The events of which no other thread may come in between, by their words, and how their lines end. Each new pin makes the version one
+// more, and so does the drain.
 const STEPS: &[(&str, &str)] = &[
     ("serve", "-> served a made"),
     ("set", "-> done"),
@@ -42,7 +42,7 @@ const STEPS: &[(&str, &str)] = &[
     ("install", "-> installed pins 3 unplaced 0 moved 1"),
 ];
 
-/// Who has come to the meeting.
+/// What the meeting counts.
 #[derive(Drop)]
 struct Counts {
     /// How often the planner has come.
@@ -86,7 +86,7 @@ fn overtake<R: Host>(rt: &R, alloc: Global, clients: u16, counts: &Counts, _sock
     }
 }
 
-/// What an operator is told.
+/// What the balancer answers an operator.
 #[derive(Drop)]
 struct Told {
     planned: Vec<u8>,
@@ -141,7 +141,7 @@ fn run<R: Host + Files>(
     (done.is_ok(), out)
 }
 
-/// Whether the journal's events, but for those that clients' connections make beside, are the expected ones.
+/// Whether the journal's events, except for those that clients' connections make beside, are the expected ones.
 fn has_steps(journal: &str) -> bool {
     let mut place = 0;
     for line in journal.lines() {
@@ -191,7 +191,7 @@ fn a_planner_is_overtaken_twice_and_then_not(rt: HostRuntime) -> Result<(), Fail
             both
         },
     );
-    let told = told.ok_or("what an operator is told")?;
+    let told = told.ok_or("an answer for the operator")?;
     assert_eq!(rt;
         told.planned.as_slice(),
         b"\npins 3 unplaced 0 moved 1\n\n".as_slice()

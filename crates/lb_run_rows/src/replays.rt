@@ -11,7 +11,7 @@ use std::test::Fail;
 const WEB: &str = "backend web\n  stick-table type string size 10\n  stick on hdr(x-id)\n  \
     server a 127.0.0.1:8001 check maxpins 5\n  server b 127.0.0.1:8002 check maxpins 5\n";
 
-/// What goes out before a script breaks, and how that is told.
+/// What goes out before a script breaks, and how that is reported.
 const BREAKS: [(&str, &str, ErrorKind, JobError); 4] = [
     ("", "", ErrorKind::IsADirectory, JobError::CannotRead),
     (

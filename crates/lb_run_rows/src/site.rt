@@ -40,7 +40,8 @@ pub(crate) fn open_port() -> PortScript<'static> {
     }
 }
 
-/// The relay's end of a connection, which doesn't block, and the client's, who has sent these bytes, and nothing behind them where it `ends`.
+/// The relay's end of a connection, which doesn't block, and the client's. The client has sent these bytes, and nothing comes after
+/// them if it `ends`.
 pub(crate) fn client(
     rt: &HostRuntime,
     sent: &[u8],
@@ -57,7 +58,7 @@ pub(crate) fn client(
     Ok((near, far))
 }
 
-/// The connection of a client of this host, of which the lobby read these bytes, and failed so behind them.
+/// The connection of a client of this host, of which the lobby read these bytes, and failed so after them.
 pub(crate) fn arrival(
     rt: &HostRuntime,
     stream: TcpStream,

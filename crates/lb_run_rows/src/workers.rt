@@ -1,7 +1,7 @@
 use crate::site::{NOWHERE, OPEN, TIMED, arrival, client, config, got, open_port};
 use crossbeam_channel::Receiver;
 use http_relay_lobby::{Arrival, waiting_line};
-use http_relay_work::{Relay, work};
+use http_relay_work::{Post, Relay, Roster, work};
 use lb_desk_ports::{OpenGate, PortScript, ScriptedPort};
 use std::alloc::Global;
 use std::io;
@@ -39,7 +39,9 @@ fn work_with_one_port<'a, R: Net + Clock + Wait>(
     if ports.len() < relay.config.backends().len() {
         return None;
     }
-    Some(work(rt, alloc, relay, from, OpenGate, ports))
+    let roster = Roster::new(alloc, 1).ok()?;
+    let post = Post::at_the_line(&roster, 0);
+    Some(work(rt, alloc, relay, from, post, OpenGate, ports))
 }
 
 // Whether the one port has so many events.

@@ -3,7 +3,7 @@ ghost use Rattle.lb_types.specs.declared.limits.TheConstants.{MAX_COST};
 
 use lb_desk_model::RuleList;
 
-/// What the words behind a request's key ask for.
+/// What the words after a request's key ask for.
 #[derive(Debug, Drop)]
 pub(crate) struct Asked {
     /// The servers that they name.

@@ -12,7 +12,7 @@ use lb_types::MAX_COST;
 use lb_types_text::Parts;
 use std::alloc::{AllocError, Global};
 
-/// The servers that the words name, and the cost that the last word may tell.
+/// The servers that the words name, and the cost that the last word may give.
 pub(crate) fn read_asked(
     alloc: Global,
     servers: &[ServerConfig],
@@ -38,7 +38,7 @@ pub(crate) fn read_asked(
     Ok(Some(Asked { rules, cost: 1 }))
 }
 
-/// What stands behind `cost=`, if the word begins so.
+/// What follows `cost=`, if the word begins so.
 fn cost_digits(word: &[u8]) -> Option<&[u8]>
     ensures { option_copied result ≡ cost_digits word.now }
 {

@@ -3,8 +3,8 @@ ghost use Rattle.lb_script.specs.Backends.{has_servers, only_place};
 
 use lb_config::{BackendConfig, Config};
 
-/// The place of the backend that scripts are for: the only one that has servers. None where none has any, or where two have.
-/// Takes no memory.
+/// The place of the backend that scripts are for: the only one that has servers. None if no backend, or more than one, has servers.
+/// Allocates nothing.
 pub fn only_backend(config: &Config) -> Option<usize>
     ensures exact { result ≡ only_place config.now.backends }
     ensures within { IfSome result (λ place. place < length config.now.backends) }

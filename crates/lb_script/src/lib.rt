@@ -1,7 +1,7 @@
 //! The lines of a replay script, each as what it asks for.
 //!
-//! Promised: `read_line` gives exactly what `specs/Lines.antt` says that the line asks for, or that the line is of no form;
-//! `only_backend` gives the one backend that a script is for, exactly where one backend alone has servers. Keys are those of requests
+//! Promised: `read_line` gives exactly what `specs/Lines.antt` says that the line asks for, or that the line is of no form.
+//! `only_backend` gives the one backend that a script is for, exactly if one backend alone has servers. Keys are those of requests
 //! (`laws`). Start at `ScriptLine`.
 #![tactic(auto)]
 

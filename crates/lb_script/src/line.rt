@@ -13,11 +13,11 @@ use lb_types::{Moment, ServerId};
 use lb_types_text::Parts;
 use std::alloc::{AllocError, Global};
 
-/// What the line, which is given without its end, asks for; none where it is of no form. The backend is the one that the script
+/// What the line, which is given without its end, asks for; none if it is of no form. The backend is the one that the script
 /// is for.
 ///
-/// One walk over the line, and for each server that it names one over the backend's. Memory is taken for the bytes of a key, for
-/// the list of the servers that a request names, and for the reading of an operator's command; the error is want of it.
+/// One walk over the line, and for each server that it names one over the backend's. Memory is taken for the bytes of a key, for the
+/// list of the servers that a request names, and for the reading of an operator's command. The only error is out of memory.
 #[tactic(auto, unfolding(crate::specs::Lines::script_line))]
 pub fn read_line(
     alloc: Global,
@@ -40,7 +40,7 @@ pub fn read_line(
     }
 }
 
-/// What the words behind the keyword ask for.
+/// What the words after the keyword ask for.
 #[tactic(auto, unfolding(crate::specs::Lines::asked_by))]
 fn read_behind(
     alloc: Global,

@@ -10,7 +10,7 @@ use lb_types::Moment;
 use lb_types_text::Parts;
 use std::alloc::{AllocError, Global};
 
-/// The request that the words behind `serve` say.
+/// The request that the words after `serve` say.
 #[tactic(auto, unfolding(crate::specs::Requests::request_in))]
 pub(crate) fn read_request(
     alloc: Global,

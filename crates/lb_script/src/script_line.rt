@@ -17,7 +17,7 @@ pub enum ScriptLine {
     PlanNow,
     /// `stickyplan 1` or `stickyplan 2`: the first line of a plan's text, to be installed. The text runs through its line `end`.
     PlanText,
-    /// What an operator is to be shown of the backend at this place among the configuration's.
+    /// What must be shown to an operator of the backend at this place among the configuration's.
     Show(Shown, usize),
     /// An operator's command that names a backend or a server that isn't there: `NoBackend` or `NoSuchServer`.
     Refused(CommandFault),

@@ -15,7 +15,7 @@ use std::hash::{Hash, Hasher};
 use std::marker::Model;
 use thiserror::Error;
 
-/// Why some bytes are no name. The first of these that holds is the one that is told.
+/// Why some bytes are no name. The first of these that holds is reported.
 #[derive(Clone, Copy, Debug, PartialEq, Eq, Hash, Error)]
 pub enum NameFault {
     /// There is no byte.
@@ -46,7 +46,7 @@ impl NameFault {
 }
 
 /// A name of a server, a backend and the like: 1 to 64 bytes, each a letter, a digit, `-`, `_`, `.` or `:`, and not
-/// `-` alone. It holds its bytes itself and takes no memory.
+/// `-` alone. It holds its bytes itself and allocates nothing.
 #[derive(Clone, Copy)]
 pub struct Name {
     bytes: [u8; MAX_NAME_BYTES],
@@ -157,7 +157,7 @@ fn is_dash(bytes: &[u8]) -> bool
     bytes == b"-".as_slice()
 }
 
-/// The bytes, and zeros behind them up to the most bytes of a name.
+/// The bytes, and zeros after them up to the most bytes of a name.
 fn padded(bytes: &[u8]) -> [u8; MAX_NAME_BYTES]
     requires { length bytes.now ≤ MAX_NAME_BYTES }
     ensures { result ≡ padded bytes.now }

@@ -1,7 +1,7 @@
 ghost use Rattle.std.specs.Prelude.{◌≤◌};
 ghost use Rattle.lb_types.specs.declared.limits.TheConstants.{MAX_PINS};
 
-/// A backend's table of pins, as the configuration has it: HAProxy Configuration Manual 2.8, section 4.2, `stick-table`.
+/// A backend's table of pins, as it is configured: HAProxy Configuration Manual 2.8, section 4.2, `stick-table`.
 #[derive(Clone, Copy, Debug, PartialEq, Eq)]
 pub struct TableSettings {
     /// How many pins it holds, 1 to 16777216.

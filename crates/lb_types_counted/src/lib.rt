@@ -1,8 +1,7 @@
-//! A writer that counts its failures, so that a refusal to write can be told from one that never tried.
+//! A writer that counts its failures, so that a refusal to write can be distinguished from one that never tried.
 //!
-//! Promised: `Counted` passes each write on and counts those that failed or took nothing, and `write_all` writes all of its
-//! bytes, or else a write failed and a beginning of them went out. Start at `Counted`; the words are in
-//! `specs/Writers.antt`.
+//! Promised: `Counted` passes each write on and counts those that failed or took nothing. `write_all` writes all of its bytes,
+//! or else a write failed and a beginning of them went out. Start at `Counted`; the words are in `specs/Writers.antt`.
 #![tactic(auto)]
 
 mod counted;

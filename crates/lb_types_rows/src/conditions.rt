@@ -4,22 +4,24 @@ use lb_acl::{
     Term, TextTest, UseServer, designated, pin_cost,
 };
 use lb_types::ServerId;
-use std::alloc::{AllocError, Global};
 use std::net::Ipv4Addr;
+use std::process::Abort;
 use std::sync::Arc;
-use std::test::Fail;
 
 /// An ACL of one line with one value.
-fn acl(
-    alloc: Global,
+fn acl<R: AllocGlobal + Abort>(
+    rt: &R,
     sample: Sample,
     matching: Matching,
     ignores_case: bool,
     value: &str,
-) -> Result<Arc<Acl>, AllocError> {
-    let values = vec![in alloc; text(alloc, value)?]?;
+) -> Arc<Acl> {
+    let alloc = rt.alloc();
+    let value = text(alloc, value).expect(rt, "memory");
+    let values = vec![in alloc; value].expect(rt, "memory");
     let line = AclLine::Text(TextTest::new(sample, matching, ignores_case, values));
-    Ok(Arc::new(alloc, Acl::new(vec![in alloc; line]?))?)
+    let lines = vec![in alloc; line].expect(rt, "memory");
+    Arc::new(alloc, Acl::new(lines)).expect(rt, "memory")
 }
 
 /// What an ACL on texts looks at.
@@ -29,10 +31,10 @@ enum Of {
     FieldX,
 }
 
-fn sample(alloc: Global, of: Of) -> Result<Sample, AllocError> {
+fn sample<R: AllocGlobal + Abort>(rt: &R, of: Of) -> Sample {
     match of {
-        Of::Path => Ok(Sample::Path),
-        Of::FieldX => Ok(Sample::Field(text(alloc, "x")?)),
+        Of::Path => Sample::Path,
+        Of::FieldX => Sample::Field(text(rt.alloc(), "x").expect(rt, "memory")),
     }
 }
 
@@ -79,15 +81,14 @@ const ACLS: &[(Of, Matching, bool, &str, &str, bool)] = &[
 
 // A path is compared without its query, and of fields each value of each field of the name is.
 #[test]
-fn acls_and_the_requests_that_they_hold_for(rt: HostRuntime) -> Result<(), Fail> {
-    let lines = fields(rt.alloc(), &[("X", "a, b"), ("Y", "z"), ("x", "c , d,")])?;
+fn acls_and_the_requests_that_they_hold_for(rt: HostRuntime) {
+    let lines = &[("X", "a, b"), ("Y", "z"), ("x", "c , d,")];
+    let lines = fields(rt.alloc(), lines).expect(&rt, "memory");
     for (of, matching, ignores_case, value, target, holds) in ACLS {
-        let sample = sample(rt.alloc(), *of)?;
-        let acl = acl(rt.alloc(), sample, *matching, *ignores_case, *value)?;
+        let acl = acl(&rt, sample(&rt, *of), *matching, *ignores_case, *value);
         let found = acl.holds(&head("GET", *target, &lines));
         assert_eq!(rt; found, *holds, "{of:?} {value} with {target}");
     }
-    Ok(())
 }
 
 /// A network by an address and the length of its prefix, and whether the client is in it.
@@ -101,31 +102,31 @@ const NETWORKS: &[([u8; 4], u8, bool)] = &[
 ];
 
 #[test]
-fn networks_and_the_clients_in_them(rt: HostRuntime) -> Result<(), Fail> {
+fn networks_and_the_clients_in_them(rt: HostRuntime) {
     for (address, prefix_len, holds) in NETWORKS {
         let network = Network::new(Ipv4Addr::from(*address), *prefix_len);
-        let networks = vec![in rt.alloc(); network]?;
-        let lines = vec![in rt.alloc(); AclLine::Source(SourceTest::new(networks))]?;
+        let networks = vec![in rt.alloc(); network].expect(&rt, "memory");
+        let line = AclLine::Source(SourceTest::new(networks));
+        let lines = vec![in rt.alloc(); line].expect(&rt, "memory");
         let found = Acl::new(lines).holds(&head("GET", "/", &[]));
         assert_eq!(rt; found, *holds, "{address:?}/{prefix_len}");
     }
-    Ok(())
 }
 
-fn method_is(alloc: Global, method: &str) -> Result<Arc<Acl>, AllocError> {
-    acl(alloc, Sample::Method, Matching::Equal, false, method)
+fn method_is<R: AllocGlobal + Abort>(rt: &R, method: &str) -> Arc<Acl> {
+    acl(rt, Sample::Method, Matching::Equal, false, method)
 }
 
 /// `if get path_a or !post`.
-fn get_path_a_or_not_post(alloc: Global) -> Result<Cond, AllocError> {
-    let path = acl(alloc, Sample::Path, Matching::Equal, false, "/a")?;
-    let first = vec![in alloc;
-        Term::new(false, method_is(alloc, "GET")?),
-        Term::new(false, path),
-    ]?;
-    let second = vec![in alloc; Term::new(true, method_is(alloc, "POST")?)]?;
-    let alternatives = vec![in alloc; Conjunction::new(first), Conjunction::new(second)]?;
-    Ok(Cond::new(Polarity::If, alternatives))
+fn get_path_a_or_not_post<R: AllocGlobal + Abort>(rt: &R) -> Cond {
+    let alloc = rt.alloc();
+    let get = Term::new(false, method_is(rt, "GET"));
+    let path = Term::new(false, acl(rt, Sample::Path, Matching::Equal, false, "/a"));
+    let post = Term::new(true, method_is(rt, "POST"));
+    let first = Conjunction::new(vec![in alloc; get, path].expect(rt, "memory"));
+    let second = Conjunction::new(vec![in alloc; post].expect(rt, "memory"));
+    let alternatives = vec![in alloc; first, second].expect(rt, "memory");
+    Cond::new(Polarity::If, alternatives)
 }
 
 /// A method, a target, and whether `get path_a or !post` holds for the two.
@@ -138,64 +139,61 @@ const REQUESTS: &[(&str, &str, bool)] = &[
 
 // `get path_a or !post` is `(get and path_a) or (not post)`.
 #[test]
-fn or_binds_looser_than_and(rt: HostRuntime) -> Result<(), Fail> {
-    let cond = get_path_a_or_not_post(rt.alloc())?;
+fn or_binds_looser_than_and(rt: HostRuntime) {
+    let cond = get_path_a_or_not_post(&rt);
     for (method, target, holds) in REQUESTS {
         let found = cond.eval(&head(*method, *target, &[]));
         assert_eq!(rt; found, *holds, "{method} {target}");
     }
-    Ok(())
 }
 
 /// `if` or `unless` the method is this one.
-fn on_method(alloc: Global, polarity: Polarity, method: &str) -> Result<Cond, AllocError> {
-    let term = Term::new(false, method_is(alloc, method)?);
-    let terms = Conjunction::new(vec![in alloc; term]?);
-    Ok(Cond::new(polarity, vec![in alloc; terms]?))
+fn on_method<R: AllocGlobal + Abort>(rt: &R, polarity: Polarity, method: &str) -> Cond {
+    let term = Term::new(false, method_is(rt, method));
+    let terms = Conjunction::new(vec![in rt.alloc(); term].expect(rt, "memory"));
+    Cond::new(polarity, vec![in rt.alloc(); terms].expect(rt, "memory"))
 }
 
 /// `use-server` by this server, if the method is this one.
-fn use_server(
-    alloc: Global,
+fn use_server<R: AllocGlobal + Abort>(
+    rt: &R,
     server: u8,
     polarity: Polarity,
     method: &str,
-) -> Result<UseServer, AllocError> {
-    let cond = on_method(alloc, polarity, method)?;
-    Ok(UseServer {
+) -> UseServer {
+    UseServer {
         server: ServerId::new(server % 128),
-        cond,
-    })
+        cond: on_method(rt, polarity, method),
+    }
 }
 
 #[test]
-fn rules_of_servers_are_taken_in_order(rt: HostRuntime) -> Result<(), Fail> {
+fn rules_of_servers_are_taken_in_order(rt: HostRuntime) {
     let alloc = rt.alloc();
     let rules = vec![in alloc;
-        use_server(alloc, 2, Polarity::If, "GET")?,
-        use_server(alloc, 0, Polarity::If, "PUT")?,
-        use_server(alloc, 1, Polarity::Unless, "PUT")?,
-    ]?;
-    let by_rules = designated(alloc, &rules, &head("GET", "/", &[]))?;
-    let by_none = designated(alloc, &[], &head("GET", "/", &[]))?;
-    let told = (by_rules.as_slice(), by_none.is_empty());
+        use_server(&rt, 2, Polarity::If, "GET"),
+        use_server(&rt, 0, Polarity::If, "PUT"),
+        use_server(&rt, 1, Polarity::Unless, "PUT"),
+    ]
+    .expect(&rt, "memory");
+    let by_rules = designated(alloc, &rules, &head("GET", "/", &[])).expect(&rt, "memory");
+    let by_none = designated(alloc, &[], &head("GET", "/", &[])).expect(&rt, "memory");
+    let found = (by_rules.as_slice(), by_none.is_empty());
     let wanted = [ServerId::new(2), ServerId::new(1)];
-    assert_eq!(rt; told, (wanted.as_slice(), true));
-    Ok(())
+    assert_eq!(rt; found, (wanted.as_slice(), true));
 }
 
 #[test]
-fn rules_of_costs_are_taken_in_order(rt: HostRuntime) -> Result<(), Fail> {
-    let alloc = rt.alloc();
-    let rules = vec![in alloc;
-        PinCost::new(7, on_method(alloc, Polarity::If, "GET")?),
-        PinCost::new(1000, on_method(alloc, Polarity::Unless, "PUT")?),
-    ]?;
-    let told = [
+fn rules_of_costs_are_taken_in_order(rt: HostRuntime) {
+    let rules = vec![in rt.alloc();
+        PinCost::new(7, on_method(&rt, Polarity::If, "GET")),
+        PinCost::new(1000, on_method(&rt, Polarity::Unless, "PUT")),
+    ]
+    .expect(&rt, "memory");
+    let found = [
         pin_cost(&rules, &head("GET", "/", &[])),
         pin_cost(&rules, &head("POST", "/", &[])),
         pin_cost(&rules, &head("PUT", "/", &[])),
     ];
-    assert_eq!(rt; told, [7, 1000, 1]);
-    Ok(())
+    assert_eq!(rt; found, [7, 1000, 1]);
 }

@@ -1,25 +1,28 @@
 use crate::requests::{fields, head, text};
 use lb_acl::{KeyLen, KeySample, StickOn, TableType, pin_key};
 use pin_set::PinKey;
-use std::alloc::Global;
-use std::test::Fail;
+use std::alloc::{AllocError, Global};
+use std::process::Abort;
 
 /// The key as text, `-` where there is none.
-fn key(
-    alloc: Global,
+fn key<R: AllocGlobal + Abort>(
+    rt: &R,
     sample: KeySample,
     table: TableType,
     lines: &[(&str, &str)],
-) -> Result<String, Fail> {
-    let fields = fields(alloc, lines)?;
-    match pin_key(
-        alloc,
-        &StickOn { sample, table },
-        &head("GET", "/", &fields),
-    )? {
-        None => Ok(String::from_str(alloc, "-")?),
-        Some(PinKey::Ipv4(address)) => Ok(address.to_string(alloc)?),
-        Some(PinKey::Text(text)) => Ok(String::from_utf8_lossy(alloc, text.as_bytes())?),
+) -> String {
+    let alloc = rt.alloc();
+    let fields = fields(alloc, lines).expect(rt, "memory");
+    let stick = StickOn { sample, table };
+    let key = pin_key(alloc, &stick, &head("GET", "/", &fields)).expect(rt, "memory");
+    spelled(alloc, key.as_ref()).expect(rt, "memory")
+}
+
+fn spelled(alloc: Global, key: Option<&PinKey>) -> Result<String, AllocError> {
+    match key {
+        None => String::from_str(alloc, "-"),
+        Some(PinKey::Ipv4(address)) => address.to_string(alloc),
+        Some(PinKey::Text(text)) => String::from_utf8_lossy(alloc, text.as_bytes()),
     }
 }
 
@@ -64,20 +67,27 @@ const OF_SOURCE: &[(Option<u16>, &str)] = &[
 
 // Of a field the last value of the last one of the name, of cookies the last one of the name, and of a source the client's address.
 #[test]
-fn keys_of_fields_cookies_and_sources(rt: HostRuntime) -> Result<(), Fail> {
+fn keys_of_fields_cookies_and_sources(rt: HostRuntime) {
     for (lines, len, wanted) in OF_X {
-        let sample = KeySample::Field(text(rt.alloc(), "x")?);
-        let found = key(rt.alloc(), sample, table_of(*len), *lines)?;
-        assert_eq!(rt; found.as_str(), *wanted, "{wanted}");
+        let sample = KeySample::Field(text(rt.alloc(), "x").expect(&rt, "memory"));
+        expect_key(&rt, sample, table_of(*len), *lines, *wanted);
     }
     for (lines, wanted) in OF_S {
-        let sample = KeySample::Cookie(text(rt.alloc(), "s")?);
-        let found = key(rt.alloc(), sample, table_of(Some(32)), *lines)?;
-        assert_eq!(rt; found.as_str(), *wanted, "{wanted}");
+        let sample = KeySample::Cookie(text(rt.alloc(), "s").expect(&rt, "memory"));
+        expect_key(&rt, sample, table_of(Some(32)), *lines, *wanted);
     }
     for (len, wanted) in OF_SOURCE {
-        let found = key(rt.alloc(), KeySample::Source, table_of(*len), &[])?;
-        assert_eq!(rt; found.as_str(), *wanted, "{wanted}");
+        expect_key(&rt, KeySample::Source, table_of(*len), &[], *wanted);
     }
-    Ok(())
+}
+
+fn expect_key<R: AllocGlobal + Abort>(
+    rt: &R,
+    sample: KeySample,
+    table: TableType,
+    lines: &[(&str, &str)],
+    wanted: &str,
+) {
+    let found = key(rt, sample, table, lines);
+    assert_eq!(rt; found.as_str(), wanted);
 }

@@ -96,15 +96,14 @@ fn pin(place: Place, want: ServerSet, cost: u16) -> Pin
 }
 
 #[test]
-fn keys_are_the_same_where_their_bytes_are(rt: HostRuntime) -> Result<(), Fail> {
-    let one = PinKey::Text(KeyText::copied_from(rt.alloc(), b"k1")?);
-    let two = PinKey::Text(KeyText::new(vec![in rt.alloc(); b'k', b'2']?));
-    let copy = one.clone()?;
+fn keys_are_the_same_where_their_bytes_are(rt: HostRuntime) {
+    let one = PinKey::Text(KeyText::copied_from(rt.alloc(), b"k1").expect(&rt, "memory"));
+    let two = PinKey::Text(KeyText::new(vec![in rt.alloc(); b'k', b'2'].expect(&rt, "memory")));
+    let copy = one.clone().expect(&rt, "memory");
     let is_one = match &copy {
         PinKey::Text(text) => text.as_bytes() == b"k1".as_slice(),
         PinKey::Ipv4(_) => false,
     };
     let address = PinKey::Ipv4(Ipv4Addr::new(107, 49, 0, 0));
     assert!(rt; is_one && copy == one && one != two && one != address);
-    Ok(())
 }

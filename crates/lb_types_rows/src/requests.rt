@@ -1,7 +1,6 @@
 use lb_acl::{Field, Head, Text, Version, path_of, trimmed};
 use std::alloc::{AllocError, Global};
 use std::net::Ipv4Addr;
-use std::test::Fail;
 
 const CLIENT: Ipv4Addr = Ipv4Addr::LOCALHOST;
 
@@ -59,7 +58,7 @@ fn paths_of_targets_and_values_without_blanks(rt: HostRuntime) {
     }
 }
 
-/// Whether it is the field `Host: x`, with a blank before and behind the value.
+/// Whether it is the field `Host: x`, with a blank before and after the value.
 fn is_host(field: &Field<'_>) -> bool {
     field.name() == b"Host".as_slice()
         && field.value() == b" x ".as_slice()
@@ -67,12 +66,11 @@ fn is_host(field: &Field<'_>) -> bool {
 }
 
 #[test]
-fn parts_of_heads(rt: HostRuntime) -> Result<(), Fail> {
-    let lines = fields(rt.alloc(), &[("Host", " x ")])?;
+fn parts_of_heads(rt: HostRuntime) {
+    let lines = fields(rt.alloc(), &[("Host", " x ")]).expect(&rt, "memory");
     let head = Head::new(b"PUT", b"/p", Version::Http10, &lines, CLIENT);
     let told = (head.method(), head.target(), head.version(), head.source());
     let wanted = (b"PUT".as_slice(), b"/p".as_slice(), Version::Http10, CLIENT);
     let has_host = head.fields().len() == 1 && head.fields().iter().all(|field| is_host(field));
     assert_eq!(rt; (told, has_host), (wanted, true));
-    Ok(())
 }

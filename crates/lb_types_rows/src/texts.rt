@@ -20,14 +20,14 @@ const PARTS: &[(&str, &[Option<&str>])] = &[
     (" ", &[Some(""), Some(""), None, None]),
 ];
 
-/// A text, and what stands before its first comma and behind it.
+/// A text, and what stands before its first comma and after it.
 const CUTS: &[(&str, Option<(&str, &str)>)] = &[
     ("a,b,c", Some(("a", "b,c"))),
     (",", Some(("", ""))),
     ("abc", None),
 ];
 
-// Behind the last part nothing comes, however often one asks.
+// After the last part nothing comes, however often one asks.
 #[test]
 fn parts_stand_between_the_marks_and_a_cut_is_at_the_first(rt: HostRuntime) {
     for (text, wanted) in PARTS {
@@ -77,7 +77,7 @@ const NUMBERS: &[(&str, Digits, Option<u64>)] = &[
     ("99999999999999999999999999x", Digits::Misspelt, None),
 ];
 
-// Digits allow leading zeros, and tell a number that is too large. A numeral has none, and is cut at 2^64 - 1.
+// Digits allow leading zeros, and report a number that is too large. A numeral has none, and is cut at 2^64 - 1.
 #[test]
 fn words_and_the_numbers_that_they_spell(rt: HostRuntime) {
     for (word, digits, number) in NUMBERS {

@@ -2,7 +2,6 @@ use lb_types_counted::Counted;
 use std::alloc::Global;
 use std::io;
 use std::io::{BufWriter, ErrorKind, Write};
-use std::test::Fail;
 
 /// What a scripted writer does with a write.
 #[derive(Clone, Copy)]
@@ -117,27 +116,25 @@ fn flushes_and_writes_of_nothing(rt: HostRuntime) {
     assert_eq!(rt; [nothing, one], [(Some(0), 0), (Some(0), 1)]);
 }
 
-/// What a vector gets.
-fn written_plainly(alloc: Global) -> io::Result<Vec<u8>> {
-    let mut out = Counted::new(Vec::new(alloc));
-    out.write_all(b"abc")?;
-    Ok(out.into_inner())
-}
-
-/// What a vector gets through a buffer of two bytes, and how many failures were counted.
+/// Adds what a vector gets through a buffer of two bytes, and gives how many failures were counted.
 fn written_through_a_buffer(alloc: Global, bytes: &mut Vec<u8>) -> io::Result<u64> {
     let mut out = Counted::new(BufWriter::with_capacity(alloc, 2, bytes)?);
-    out.write_all(b"abcde")?;
-    out.flush()?;
+    write_and_flush(&mut out)?;
     Ok(out.failures())
 }
 
+fn write_and_flush(out: &mut impl Write) -> io::Result<()> {
+    out.write_all(b"abcde")?;
+    out.flush()
+}
+
 #[test]
-fn a_vector_and_a_buffered_writer_take_all(rt: HostRuntime) -> Result<(), Fail> {
-    let plain = written_plainly(rt.alloc())?;
+fn a_vector_and_a_buffered_writer_take_all(rt: HostRuntime) {
+    let mut plain = Counted::new(Vec::new(rt.alloc()));
+    plain.write_all(b"abc").expect(&rt, "memory");
     let mut bytes = Vec::new(rt.alloc());
-    let failures = written_through_a_buffer(rt.alloc(), &mut bytes)?;
-    let told = (plain.as_slice(), failures, bytes.as_slice());
-    assert_eq!(rt; told, (b"abc".as_slice(), 0, b"abcde".as_slice()));
-    Ok(())
+    let failures = written_through_a_buffer(rt.alloc(), &mut bytes).expect(&rt, "memory");
+    let plain = plain.into_inner();
+    let found = (plain.as_slice(), failures, bytes.as_slice());
+    assert_eq!(rt; found, (b"abc".as_slice(), 0, b"abcde".as_slice()));
 }

@@ -1,7 +1,7 @@
 //! What every reader of a text shares: bytes cut at a mark, and numbers in decimal digits.
 //!
 //! Promised: the parts are exactly those between the marks, and a number is read exactly where it is spelled as one.
-//! Nothing here takes memory. Start at `Parts`; the laws on lists for the crates above are in `proofs/`.
+//! Nothing here allocates. Start at `Parts`; the laws on lists for the crates above are in `proofs/`.
 #![tactic(auto)]
 
 mod numbers;

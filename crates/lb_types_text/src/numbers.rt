@@ -78,7 +78,7 @@ fn value(word: &[u8]) -> Option<u64>
     Some(number)
 }
 
-/// The number with the digit behind its own.
+/// The number with the digit appended to its own.
 fn with_digit(number: u64, byte: u8) -> Option<u64>
     requires { is_ascii_digit byte ≡ true }
     ensures { result ≡ within_64_bits (number * 10 + digit_value byte) }

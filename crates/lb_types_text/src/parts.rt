@@ -50,7 +50,7 @@ impl<'a> Parts<'a> {
     }
 }
 
-/// What stands before the first mark, and what stands behind it. None where there is no mark.
+/// What stands before the first mark, and what follows it. None if there is no mark.
 pub fn cut(bytes: &[u8], mark: u8) -> Option<(&[u8], &[u8])>
     ensures found { IfSome result (λ two. parts mark bytes.now ≡ two.0.now ∷ parts mark two.1.now) }
     ensures more { IfSome result (λ two. 0 < length (parts mark two.1.now)) }

@@ -9,7 +9,7 @@ use std::marker::Model;
 
 /// How many there are of each kind. Kinds that `==` says are equal are one kind.
 ///
-/// Each call costs a few look-ups in a tree of the kinds that are present, and it takes memory only where a kind becomes
+/// Each call costs a few look-ups in a tree of the kinds that are present, and it allocates only where a kind becomes
 /// present.
 #[derive(Debug, Drop)]
 pub struct Counts<K: Ord> {
@@ -28,7 +28,7 @@ impl<K: Ord> Model for Counts<K> {
 }
 
 impl<K: Ord + Copy> Counts<K> {
-    /// Of no kind there is any. It takes no memory.
+    /// Of no kind there is any. It allocates nothing.
     pub fn new(alloc: Global) -> Self
         ensures { result ≡ [] }
     {
@@ -71,7 +71,7 @@ impl<K: Ord + Copy> Counts<K> {
         Ok(())
     }
 
-    /// Counts one fewer of this kind, of which there has to be one. It takes no memory.
+    /// Counts one fewer of this kind, of which there has to be one. It allocates nothing.
     pub fn remove(&mut self, kind: K)
         requires { 0 < count_of K.eq self.old kind }
         ensures { HasOneMore K.eq self.new kind self.old }

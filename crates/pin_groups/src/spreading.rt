@@ -13,13 +13,12 @@ use lb_types_pins::{PinKind, Row};
 use pin_set::{Pin, View};
 use std::alloc::{AllocError, Global};
 
-/// Places for the pins of a view, as many of each kind to each place as the plan says: the i-th pin goes to the i-th
-/// place. The plan must be one for a sheet of this view. A pin stays where it is as long as the plan keeps pins of its
-/// kind there.
+/// Places for the pins of a view, as many of each kind to each place as the plan says: the i-th pin goes to the i-th place. The plan
+/// must be one for a sheet of this view. A pin stays where it is as long as the plan keeps pins of its kind there.
 ///
-/// Time grows with the pins times the logarithm of the rows, and with the rows: each pin is looked up among the rows by binary
-/// search, and one that moves starts where the last one of its kind found a row, so that together they pass over each row once.
-/// Memory for the places and for two numbers a row, asked for first.
+/// Time grows with the pins times the logarithm of the rows, and with the rows. Each pin is looked up among the rows by binary
+/// search, and one that moves starts where the last one of its kind found a row. So together they pass over each row once. Memory for
+/// the places and for two numbers a row, asked for first.
 pub fn spread(alloc: Global, view: &View, plan: &Plan) -> Result<Vec<Place>, AllocError>
     requires { AreGroupsOf (groups_of plan.now.rows) (kinds_of view.now) }
     ensures { IfOk result (λ places. Agrees plan.now.rows (kinds_of view.now) places.items) }

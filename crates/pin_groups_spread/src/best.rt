@@ -11,7 +11,7 @@ use pin_groups::{group, spread};
 use pin_set::View;
 use std::alloc::{AllocError, Global};
 
-/// Places for the pins of a view by a plan, exactly where the check accepts the plan for the view's sheet: the i-th pin
+/// Places for the pins of a view by a plan, exactly where the check accepts the plan for the view's sheet. The i-th pin
 /// goes to the i-th place, as many of each kind to each place as the plan says, and no assignment is better.
 ///
 /// Costs a `group`, a `check` and a `spread`, with their memory.

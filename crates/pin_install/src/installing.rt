@@ -16,12 +16,13 @@ use pin_table::Table;
 use std::alloc::{AllocError, Global};
 use std::hash::BuildHasher;
 
-/// Checks the plan for the table's pins at these servers, of which some are usable, and sends each pin where the plan says. Gives
-/// the plan's score, or the first fault that the check finds. Neither the versions are compared nor the table's version counted on.
+/// Checks the plan for the table's pins at these servers, of which some are usable, and sends each pin where the plan says. Gives the
+/// plan's score, or the first fault that the check finds. Versions are not compared, and the table's version is not increased.
 ///
-/// Fails where there is no memory; then nothing has changed, nor where the plan is refused. It takes memory for the counts, the
-/// sheet, the moves and the counts behind them, and none for any pin. It costs one pass over the pins, in which each takes a look at
-/// two moves, or a binary search among them where its kind is met for the first time, and besides what the counts and the plan's rows cost.
+/// Fails where there is no memory. Nothing has changed then, nor where the plan is refused. It allocates memory for the counts, the
+/// sheet, the moves and the counts after them, and none for any pin. It costs one pass over the pins, and besides what the counts and
+/// the plan's rows cost. In the pass each pin takes a look at two moves, or a binary search among them where its kind is met for the
+/// first time.
 pub fn install<S: BuildHasher>(
     alloc: Global,
     table: &mut Table<S>,

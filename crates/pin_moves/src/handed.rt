@@ -29,7 +29,7 @@ impl Model for Moving {
 }
 
 impl Moving {
-    /// All these moves are still to be made. It takes no memory.
+    /// All these moves are still to be made. It allocates nothing.
     pub fn new(moves: Vec<Move>) -> Self
         requires rising { AllPairs (λ a b. move_before a b ≡ true) moves.items }
         requires some { All (λ m. 1 ≤ m.count) moves.items }
@@ -48,9 +48,9 @@ impl Moving {
         &self.left
     }
 
-    /// Where one more of the pins of this place, these wanted servers and this cost goes, of which one has to be left. It takes no
-    /// memory. Mostly it costs a look at two moves, and where pins of a kind are asked for the first time, or where those of another
-    /// kind were looked up in between that have its hash, one binary search among the moves.
+    /// Where one more of the pins of this place, these wanted servers and this cost goes, of which one has to be left. It allocates
+    /// nothing. Mostly it costs a look at two moves. It costs one binary search among the moves where pins of a kind are asked for the
+    /// first time, or where those of another kind with its hash were looked up in between.
     pub fn next(&mut self, place: Place, want: ServerSet, cost: u16) -> Place
         requires { 1 ≤ moved_with self.old place want cost }
         ensures { IsHandedOut place want cost result self.old self.new }

@@ -7,7 +7,7 @@ use std::hash::{BuildHasher, BuildHasherDefault, FoldHasher, Hash, Hasher};
 /// How many kinds have a hint of their own, if their hashes differ.
 const SLOTS: usize = 8192;
 
-/// The place of a move for each hash of a kind of pins. Kinds may share one, so whoever asks has to look whether it is right.
+/// The place of a move for each hash of a kind of pins. Kinds may share one, so a caller has to look whether it is right.
 #[derive(Debug, Drop)]
 pub(crate) struct Hints {
     at: [u16; SLOTS],

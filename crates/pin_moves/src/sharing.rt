@@ -16,8 +16,8 @@ use lb_types_pins::{PinKind, Row};
 use pin_set::{PinCount, permitted};
 use std::alloc::{AllocError, Global};
 
-/// Moves of the counted pins that send as many of each kind to each place as the plan says, in strictly rising order by place,
-/// wanted servers and cost, then by where the pins go. The plan must be one for a sheet with these counts and usable servers.
+/// Moves of the counted pins that send as many of each kind to each place as the plan says. They are in strictly rising order by
+/// place, wanted servers and cost, then by where the pins go. The plan must be one for a sheet with these counts and usable servers.
 ///
 /// Each count takes from the rows of its kind what it needs, row after row, so there are fewer moves than counts and rows together.
 /// Time grows with counts and rows, times the logarithm of the rows. Memory for the moves and for a copy of the rows.
@@ -65,7 +65,7 @@ fn shared_out(
     Ok(moves)
 }
 
-/// Moves for the pins of one count, put behind the others. They are taken out of what is left of the plan's rows.
+/// Appends moves for the pins of one count. They are taken out of what is left of the plan's rows.
 fn share(
     left: &mut [Row],
     usable: ServerSet,

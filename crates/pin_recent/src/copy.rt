@@ -36,7 +36,7 @@ impl<K, V> RecentCopy<K, V> {
     /// The pairs in order of last use, from the one that wasn't used for longest.
     ///
     /// A walk through all of them is one pass over the order and the holes that touches left in it, and goes to each pair where it
-    /// is kept. It takes no memory.
+    /// is kept. It allocates nothing.
     pub fn iter(&self) -> Iter<'_, K, V>
         ensures { result ≡ self.now }
     {

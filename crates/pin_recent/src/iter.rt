@@ -9,7 +9,7 @@ use std::slice;
 
 /// The pairs of a copy in order of last use, from the one that wasn't used for longest. It is seen as the list of what it has left.
 ///
-/// Each step reads the order up to the next pair, and goes to where that pair is kept. It takes no memory.
+/// Each step reads the order up to the next pair, and goes to where that pair is kept. It allocates nothing.
 #[derive(Drop)]
 pub struct Iter<'a, K, V> {
     pub(crate) pairs: &'a [(K, V)],

@@ -1,11 +1,11 @@
-//! A hash map whose pairs stand in order of last use.
+//! A hash map whose pairs are in order of last use.
 //!
-//! `Recent` is a list of pairs, the one that wasn't used for longest first, and the number of uses so far. A key is found by
-//! its hash, a touch puts its pair last and never asks for memory, and the oldest pair is popped without memory too. A pass
-//! changes each value once, and hashes nothing.
+//! `Recent` is a list of pairs, the one that wasn't used for longest first, and the number of uses so far. A key is found by its
+//! hash, a touch puts its pair last and never allocates, and the oldest pair is popped without memory too. A pass changes each
+//! value once, and hashes nothing.
 //!
-//! Promised: each call's result and the list after it, exactly, whatever the hasher. A call that is refused for want of memory
-//! changes nothing. Start at `Recent`; the words are in `specs/Recent.antt`. No clause sees where a pair is stored.
+//! Promised: each call's result and the list after it, exactly, whatever the hasher. A call that is refused memory changes nothing.
+//! Start at `Recent`; the words are in `specs/Recent.antt`. No clause sees where a pair is stored.
 #![tactic(auto)]
 
 mod change;

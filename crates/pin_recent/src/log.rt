@@ -5,7 +5,7 @@ ghost use Rattle.std.specs.VecDeque.{deque_capacity};
 use std::alloc::{AllocError, Global};
 use std::collections::VecDeque;
 
-/// A place that no entry has: what stands in the log where a place was taken out.
+/// A place that no entry has: what is in the log where a place was taken out.
 pub(crate) const HOLE: u32 = 0xFFFF_FFFF;
 
 /// Places in order of last use, oldest first. The first has the number `first`, each later one the next.

@@ -37,7 +37,7 @@ impl<K: Eq + Hash, V, S: BuildHasher> Model for Recent<K, V, S> {
 }
 
 impl<K: Eq + Hash, V, S: BuildHasher> Recent<K, V, S> {
-    /// An empty map. It takes no memory until the first push.
+    /// An empty map. It allocates nothing until the first push.
     pub fn new(alloc: Global, hasher: S) -> Self
         ensures { result ≡ in_order [] 0 }
     {
@@ -88,7 +88,7 @@ impl<K: Eq + Hash, V, S: BuildHasher> Recent<K, V, S> {
         self.store.pop()
     }
 
-    /// Changes each value once, in an order of the map's own. It is no use of any pair, hashes nothing, takes no memory and
+    /// Changes each value once, in an order of the map's own. It is no use of any pair, hashes nothing, allocates nothing and
     /// can't fail. It costs one walk over the pairs, and a call of `change` for each of them.
     pub fn change_values<C: Change<K, V>>(&mut self, change: &mut C)
         requires { (order : List (K × V)) → IsPermutation self.old.pairs order → MayChange C.accepts C.changes change.old order }
@@ -100,12 +100,12 @@ impl<K: Eq + Hash, V, S: BuildHasher> Recent<K, V, S> {
 }
 
 impl<K: Eq + Hash + Clone + Drop, V: Copy, S: BuildHasher> Recent<K, V, S> {
-    /// A copy of the pairs, for a walk in order of last use. It is no use of any pair. It has exactly the map's pairs where the clone of
-    /// a key equals the key.
+    /// A copy of the pairs, for a walk in order of last use. It is no use of any pair. It has exactly the map's pairs where the clone
+    /// of a key equals the key.
     ///
-    /// It costs one pass over the pairs, in an order of the map's own, that clones each key, and a copy of the order of last use; only a
-    /// walk through the copy brings the two together. It hashes nothing. The room for all pairs, and 4 bytes for each pair and each hole
-    /// of the order, is taken before the pass. Want of memory, for that or for a key, is its one error.
+    /// It costs one pass over the pairs, in an order of the map's own, that clones each key, and a copy of the order of last use.
+    /// Only a walk through the copy brings the two together. It hashes nothing. The room for all pairs, and 4 bytes for each pair and
+    /// each hole of the order, is taken before the pass. The only error is out of memory, for that or for a key.
     pub fn copy(&self, alloc: Global) -> Result<RecentCopy<K, V>, AllocError>
         ensures { IfOk result (λ copy. ((key clone : K) → K.is_clone key clone → clone ≡ key) → copy ≡ self.now.pairs) }
     {
@@ -115,10 +115,10 @@ impl<K: Eq + Hash + Clone + Drop, V: Copy, S: BuildHasher> Recent<K, V, S> {
 
 impl<K: Eq + Hash, V: Drop, S: BuildHasher> Recent<K, V, S> {
     /// Gives a key's pair a new value, puts it last, and answers the old value. Where the key isn't there, nothing changes. It
-    /// takes no memory.
+    /// allocates nothing.
     ///
-    /// It costs one look-up by hash and a few machine instructions; once in as many touches as there are pairs, or more seldom,
-    /// a pass over all of them besides.
+    /// It costs one look-up by hash and a few machine instructions. Once in as many touches as there are pairs, or more seldom, it
+    /// costs a pass over all of them besides.
     pub fn touch(&mut self, key: &K, value: V) -> Option<V>
         requires { self.old.uses < 2 ^ 63 }
         ensures old { result ≡ lookup (K.eq key.now) self.old.pairs }
@@ -142,7 +142,7 @@ impl<K: Eq + Hash + Drop, V: Drop, S: BuildHasher> Recent<K, V, S> {
         self.store.clear();
     }
 
-    /// Puts a pair whose key isn't there behind the others.
+    /// Appends a pair whose key isn't there.
     ///
     /// Fails, with the pair handed back, where there is no memory, or with 4294967294 pairs there.
     pub fn push(&mut self, key: K, value: V) -> Result<(), AllocFailed<(K, V)>>

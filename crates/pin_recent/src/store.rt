@@ -87,8 +87,8 @@ impl<K: Eq + Hash, V, S: BuildHasher> Store<K, V, S> {
         }
     }
 
-    /// Closes the holes of a log that is full, so that one place more fits. It costs a step for each place of the log; as at
-    /// least half of them were holes, it is a few steps for each touch since the last time.
+    /// Closes the holes of a log that is full, so that one place more fits. It costs a step for each place of the log. At least half
+    /// of them were holes, so it is a few steps for each touch since the last time.
     fn make_room(&mut self)
         requires ordered { Ordered self.old }
         requires trim { Trim self.old }
@@ -274,7 +274,7 @@ impl<K: Eq + Hash + Drop, V: Drop, S: BuildHasher> Store<K, V, S> {
         self.log.clear();
     }
 
-    /// Puts a pair whose key isn't there behind the others.
+    /// Appends a pair whose key isn't there.
     pub(crate) fn push(&mut self, key: K, value: V) -> Result<(), AllocFailed<(K, V)>>
         requires ordered { Ordered self.old }
         requires trim { Trim self.old }

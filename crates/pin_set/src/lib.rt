@@ -1,7 +1,7 @@
 //! What a pin is, what an assignment of places to pins costs, and which assignments are best.
 //!
 //! Promised: `permitted`, `honoured` and `score` are their definitions in `specs/Pins.antt` and `specs/Assignments.antt`, and
-//! `==` of two names decides whether they are one (`specs/Names.antt`). No call takes memory but those that copy a key. Start at
+//! `==` of two names decides whether they are one (`specs/Names.antt`). No call allocates except those that copy a key. Start at
 //! `View`.
 #![tactic(auto)]
 

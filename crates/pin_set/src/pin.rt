@@ -12,7 +12,7 @@ pub struct PinId {
 }
 
 impl PinId {
-    /// Whether the other name is this one. It is what `==` says, as `specs/Names.antt` has it.
+    /// Whether the other name is this one. It is what `==` says, as `specs/Names.antt` defines it.
     pub fn is_same(&self, other: &PinId) -> bool
         ensures { IsTrue result ↔ (self.now ≡ other.now) }
     {

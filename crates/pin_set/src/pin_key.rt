@@ -10,7 +10,7 @@ use std::hash::{Hash, Hasher};
 use std::marker::Model;
 use std::net::Ipv4Addr;
 
-/// What a backend's `stick on` pattern found in a request, as the table's type has it.
+/// What a backend's `stick on` pattern found in a request, by the table's type.
 #[derive(Clone, Debug, Drop, PartialEq, Eq, Hash)]
 pub enum PinKey {
     /// The key of a table of type `ip`.
@@ -19,7 +19,7 @@ pub enum PinKey {
     Text(KeyText),
 }
 
-/// The bytes of a key in a table of type `string`. Up to 32 of them stand in place, and need no memory of their own.
+/// The bytes of a key in a table of type `string`. Up to 32 of them are kept in place, and need no memory of their own.
 #[derive(Drop)]
 pub struct KeyText {
     bytes: SmallVec<u8, 32>,
@@ -34,7 +34,7 @@ impl Model for KeyText {
 }
 
 impl KeyText {
-    /// The key of these bytes. It takes no memory.
+    /// The key of these bytes. It allocates nothing.
     pub fn new(bytes: Vec<u8>) -> Self
         ensures { result ≡ bytes.items }
     {
@@ -43,7 +43,7 @@ impl KeyText {
         }
     }
 
-    /// The key of a copy of these bytes. It takes memory where they are more than 32, of which want is its one error.
+    /// The key of a copy of these bytes. It allocates where they are more than 32. The only error is out of memory.
     pub fn copied_from(alloc: Global, bytes: &[u8]) -> Result<KeyText, AllocError>
         ensures exact { IfOk result (λ text. text ≡ bytes.now) }
         ensures in_place { length bytes.now ≤ 32 → IsOk result }

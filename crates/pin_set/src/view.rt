@@ -35,7 +35,7 @@ impl View {
     ghost use Rattle.std.specs.Prelude.{◌≡◌};
     ghost use Rattle.pin_set.specs.Views.{IsView, view_of_parts};
 
-    /// The view of these parts, which takes no memory. The servers stand in the configuration's order, and the pins in
+    /// The view of these parts, which allocates nothing. The servers are in the configuration's order, and the pins in
     /// order of last use, the one that was used last at the end.
     pub fn new(usable: ServerSet, servers: Vec<ViewServer>, pins: Vec<Pin>) -> Self
         requires { IsView (view_of_parts usable servers.items pins.items) }

@@ -41,7 +41,7 @@ impl<S: BuildHasher> Model for CountedPins<S> {
 }
 
 impl<S: BuildHasher> CountedPins<S> {
-    /// No pin. It takes no memory.
+    /// No pin. It allocates nothing.
     pub(crate) fn new(alloc: Global, hasher: S) -> Self
         ensures { result ≡ used_pins [] 0 }
     {
@@ -143,8 +143,7 @@ impl<S: BuildHasher> CountedPins<S> {
         Ok(())
     }
 
-    /// Puts a pin whose name is new behind the others. Fails, with the name handed back, where there is no memory; then nothing
-    /// has changed.
+    /// Appends a pin whose name is new. Fails, with the name handed back, where there is no memory; then nothing has changed.
     pub(crate) fn push(&mut self, name: PinId, held: Held) -> Result<(), PinId>
         requires absent { IsNew name self.old.pins }
         requires uses { self.old.uses < 2 ^ 63 }

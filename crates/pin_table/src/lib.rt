@@ -1,9 +1,8 @@
 //! The pins of one backend, in order of last use, with how many there are of each place, wanted servers and cost.
 //!
-//! Promised: a look-up, a use, a move, an insert and a purge give exactly the pins that they should, whatever the hasher; the moves
-//! of a plan send as many pins of each kind to each place as they say; a call that is refused for want of memory changes nothing;
-//! the counts are those of the pins. Start at `Table`, whose words are in `specs/Tables.antt`. No clause sees how pins are found or
-//! counted.
+//! Promised: a look-up, a use, a move, an insert and a purge give exactly the pins that they should, whatever the hasher. The moves
+//! of a plan send as many pins of each kind to each place as they say. A call that is refused memory changes nothing. The counts are
+//! those of the pins. Start at `Table`, whose words are in `specs/Tables.antt`. No clause sees how pins are found or counted.
 #![tactic(auto)]
 
 mod counted_pins;

@@ -46,7 +46,7 @@ impl<S: BuildHasher> Model for Table<S> {
 }
 
 impl<S: BuildHasher> Table<S> {
-    /// An empty table, at version 0. It takes no memory until the first pin. The hasher finds the pins, and no promise depends
+    /// An empty table, at version 0. It allocates nothing until the first pin. The hasher finds the pins, and no promise depends
     /// on it: with a seeded one nobody can choose keys that collide.
     pub fn new(alloc: Global, settings: TableSettings, hasher: S) -> Self
         ensures { result ≡ table_of_parts [] settings.size settings.no_purge 0 0 }
@@ -141,11 +141,11 @@ impl<S: BuildHasher> Table<S> {
     }
 
     /// Sends each pin where the moves say, in one pass that hashes nothing. It is no use of any pin, and changes no cost and no
-    /// moment. The moves have to be of exactly the pins that there are; which of the pins of one place, wanted servers and cost goes
+    /// moment. The moves have to be of exactly the pins that there are. Which of the pins of one place, wanted servers and cost goes
     /// where is free.
     ///
-    /// Fails where there is no memory for the counts behind the moves; then nothing has changed. Once that memory is taken nothing
-    /// is refused. Each pin costs one search among the moves.
+    /// Fails where there is no memory for the counts after the moves; then nothing has changed. Once that memory is taken nothing is
+    /// refused. Each pin costs one search among the moves.
     pub fn set_places(&mut self, alloc: Global, moves: Vec<Move>) -> Result<(), AllocError>
         requires rising { AllPairs (λ a b. move_before a b ≡ true) moves.items }
         requires some { All (λ m. 1 ≤ m.count) moves.items }
@@ -220,9 +220,9 @@ impl<S: BuildHasher> Table<S> {
 
     /// A copy of the pins, which gives them out in order of last use. It is no use of any pin.
     ///
-    /// It costs one pass through the pins as they stand in memory, with a copy of each key, and hashes nothing; to put them into
-    /// order is left to the copy. It takes memory for the pins, before the pass, and for the keys that are text, of which want is
-    /// its one error.
+    /// It costs one pass through the pins as they lie in memory, with a copy of each key, and hashes nothing. To put them into
+    /// order is left to the copy. It allocates memory for the pins, before the pass, and for the keys that are text. The only error is
+    /// out of memory.
     pub fn copy(&self, alloc: Global) -> Result<TableCopy, AllocError>
         ensures exact { IfOk result (λ copy. copy ≡ self.now.pins) }
     {
@@ -239,7 +239,7 @@ impl<S: BuildHasher> Table<S> {
         self.pins.counts()
     }
 
-    /// The same counts as a list, among which the moves of a plan can be shared out. It takes memory for as many counts as there
+    /// The same counts as a list, among which the moves of a plan can be shared out. It allocates memory for as many counts as there
     /// are kinds.
     pub fn pin_counts(&self, alloc: Global) -> Result<Vec<PinCount>, AllocError>
         ensures rising { IfOk result (λ counts. AreRisingCounts counts.items) }

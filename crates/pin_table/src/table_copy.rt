@@ -36,8 +36,8 @@ impl TableCopy {
 
     /// The pins as a list, in order of last use.
     ///
-    /// It costs one walk over the pins, which stand anywhere in memory, and a copy of each key, and hashes nothing. It takes memory
-    /// for the list and for the keys that are text, of which want is its one error.
+    /// It costs one walk over the pins, which lie anywhere in memory, and a copy of each key, and hashes nothing. It allocates memory
+    /// for the list and for the keys that are text. The only error is out of memory.
     pub fn rows(&self, alloc: Global) -> Result<Vec<TablePin>, AllocError>
         ensures { IfOk result (λ rows. rows.items ≡ self.now) }
     {

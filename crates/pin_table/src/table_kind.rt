@@ -2,7 +2,7 @@ use crate::Held;
 use lb_types::{Place, ServerSet};
 use pin_set::PinId;
 
-/// What the table counts its pins by. Which of the wanted servers are usable plays no part, so that what happens to a server
+/// What the table counts its pins by. Which of the wanted servers are usable makes no difference, so that what happens to a server
 /// changes no count.
 ///
 /// Kinds are ordered by place, then by wanted servers, then by cost.

@@ -11,7 +11,7 @@ use std::hash::{BuildHasher, BuildHasherDefault, FoldHasher};
 use std::process::Abort;
 use std::test::Fail;
 
-/// Whether a is usable, as b is, a plan, whether it is one for the pins, and the kinds of pins behind it.
+/// Whether a is usable, as b is, a plan, whether it is one for the pins, and the kinds of pins after it.
 struct Row {
     name: &'static str,
     a_is_usable: bool,
@@ -20,8 +20,8 @@ struct Row {
     kinds: &'static [Counted],
 }
 
-/// The numbers of the pins and their servers, in order of use. Pins of odd numbers want b, the others want no server. Their costs
-/// are 1, but for pin 1, which costs 2.
+/// The numbers of the pins and their servers, in order of use. Pins of odd numbers want b, the others want no server. Their costs are
+/// 1, except for pin 1, which costs 2.
 const PINS: &[(u32, u8)] = &[(0, 0), (3, 0), (6, 0), (1, 1), (9, 0)];
 
 /// The kinds of these pins.

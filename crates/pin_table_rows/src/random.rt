@@ -6,7 +6,7 @@ use std::hash::{BuildHasher, BuildHasherDefault, FoldHasher, RandomState};
 use std::process::Abort;
 use std::test::Fail;
 
-/// A pin as the plain list has it.
+/// A pin as it is in the plain list.
 #[derive(Clone, Copy, Debug, PartialEq, Eq)]
 struct PlainPin {
     number: u32,
@@ -154,7 +154,7 @@ impl<S: BuildHasher + Drop> Both<S> {
         }
     }
 
-    /// Whether the counts are those of the list, counted anew, and rise.
+    /// Whether the counts are those of the list, counted again, and rise.
     fn counts_agree(&self) -> bool {
         let mut before: Option<TableKind> = None;
         let mut all: u64 = 0;

@@ -72,7 +72,7 @@ fn used<S: BuildHasher + Drop>(
     }
 }
 
-/// Moves the pin of this number to server 1, where it stands in the table.
+/// Moves the pin of this number to server 1, where it is in the table.
 fn moved<S: BuildHasher + Drop>(
     table: &mut Table<S>,
     number: u32,

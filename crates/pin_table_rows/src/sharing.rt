@@ -161,7 +161,7 @@ fn has_sheet(alloc: Global, view: &View, counts: &[PinCount]) -> Result<bool, Fa
 }
 
 // The table has six pins, of four places, wanted servers and costs. Where both servers are usable, a pin that wants none may go to
-// both as well as one that wants both; where `ab` alone is, whatever they want, pins of one place and cost are of one kind.
+// both as well as one that wants both. Where `ab` alone is, whatever they want, pins of one place and cost are of one kind.
 #[test]
 fn a_tables_counts_make_its_sheet(rt: HostRuntime) -> Result<(), Fail> {
     let none = ServerSet::empty();

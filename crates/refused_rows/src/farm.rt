@@ -28,7 +28,7 @@ pub(crate) const C: u8 = 2;
 /// The keys of the requests that come first, a millisecond after one another. Pins go to a, b, c and a.
 pub(crate) const FIRST: [&str; 4] = ["k1", "k2", "k3", "k4"];
 
-/// What a plan comes to where a, which has two of four pins, is to be left: two pins move, at 1 each.
+/// What a plan comes to where a, which has two of four pins, must be left: two pins move, at 1 each.
 pub(crate) const TWO_MOVED: Score = Score {
     pins: 4,
     unplaced: 0,

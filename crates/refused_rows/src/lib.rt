@@ -1,7 +1,7 @@
-//! Calls that memory is refused to: each says so, changes nothing, and gives what is owed once there is memory.
+//! Calls that are refused memory: each says so, changes nothing, and gives what is owed once there is memory.
 //!
-//! Tests alone. `bench/refused` runs each of them once for each request for memory that its call makes, and refuses that one. Start at
-//! `steps`, and at `marks` for how a test tells its call.
+//! Tests alone. `bench/refused` runs each of them once for each request for memory that its call makes, and refuses that one. Start
+//! at `steps`, and at `marks` for how a test marks its call.
 #![tactic(auto)]
 
 #[cfg(test)]

@@ -1,5 +1,5 @@
-//! Where a call begins and ends that a test is of, and whether it was refused. A mark is a request for memory of a size that nothing else here asks for: so
-//! `bench/refused`, which sees requests alone, knows which of them it may refuse, and what came of it.
+//! Where a call begins and ends that a test is of, and whether it was refused. A mark is a request for memory of a size that nothing
+//! else here asks for. So `bench/refused`, which sees requests alone, knows which of them it may refuse, and what came of it.
 
 use std::alloc::{AllocError, Global};
 

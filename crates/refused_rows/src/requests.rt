@@ -1,4 +1,4 @@
-//! A chunked upload through the relay, over memory. Its wires take memory too: one that is refused it breaks.
+//! A chunked upload through the relay, over memory. Its wires allocate too: one that is refused memory breaks.
 
 use crate::marks::{begin, end, tell};
 use http_relay_dial::{DialScript, ScriptedDialer};

@@ -56,7 +56,7 @@ fn at_a_seat<S: BuildHasher, N: Naming, R: Wait + Abort>(
     leave_a(rt, alloc, &mut seat)
 }
 
-/// Pins come to a, b, c and a, of which a is to be left.
+/// Pins come to a, b, c and a, of which a must be left.
 fn begin_the_day<R, P: Port<R> + Steer<R>>(
     rt: &R,
     alloc: Global,
@@ -102,7 +102,7 @@ fn leave_a<R: Abort, P: Steer<R>>(rt: &R, alloc: Global, seat: &mut P) -> Result
     Ok(())
 }
 
-/// Whether the entries are those that there were, with a sheet behind them or without.
+/// Whether the entries are those that there were, with a sheet after them or without.
 fn is_behind(before: &[Entry], entries: &[Entry]) -> bool {
     match entries.split_last() {
         Some((last, rest)) if last.event == Event::Snapshot => rest == before,

@@ -1,4 +1,4 @@
-//! Each event at a desk that has four pins, two of them at a server that is to be left.
+//! Each event at a desk that has four pins, two of them at a server that must be left.
 
 use crate::farm::{A, B, C, FIRST, Hasher, TWO_MOVED, farm, request, server};
 use crate::marks::{begin, end, tell};
@@ -18,7 +18,7 @@ use std::test::Fail;
 /// As many entries as the desk has when a test begins: the next one pushes out the first.
 const JOURNAL: u32 = 6;
 
-/// What the desk's pins are as a sheet. Each pin that was made and the server that is to be left changed the view once.
+/// What the desk's pins are as a sheet. Each pin that was made and the server that must be left changed the view once.
 const SHEET: &[u8] = b"stickysheet 1
 version 5
 server a off
@@ -74,7 +74,7 @@ impl Stand {
     }
 }
 
-/// A desk with pins at a, b, c and a, of which a is to be left. The first pin was used once more.
+/// A desk with pins at a, b, c and a, of which a must be left. The first pin was used once more.
 fn desk(alloc: Global) -> Result<Desk<Hasher>, Fail> {
     let backend = farm(alloc)?;
     let mut desk = opened(alloc, &backend)?;
@@ -82,7 +82,7 @@ fn desk(alloc: Global) -> Result<Desk<Hasher>, Fail> {
     Ok(desk)
 }
 
-// A function that has a desk of its own, and many calls behind which it would end, takes the prover minutes. So most lend one out.
+// Where a function owns a desk and makes many calls after which it would end, the prover takes minutes. So most lend one out.
 fn opened(alloc: Global, backend: &Backend) -> Result<Desk<Hasher>, Fail> {
     let hasher = BuildHasherDefault::<FoldHasher>::new();
     Ok(Desk::open(alloc, backend, JOURNAL, hasher)?)

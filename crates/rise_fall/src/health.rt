@@ -10,7 +10,7 @@ pub const MAX_STREAK: u64 = 1000;
 
 /// The health of one checked server, under its settings `rise` and `fall`.
 ///
-/// It takes no memory, and each call is a few machine instructions.
+/// It allocates nothing, and each call is a few machine instructions.
 #[derive(Clone, Copy, Debug, PartialEq, Eq)]
 pub struct Health {
     rise: u16,
@@ -51,7 +51,7 @@ impl Health {
         }
     }
 
-    /// Takes the result of one more check, and tells what it changed.
+    /// Takes the result of one more check, and returns what it changed.
     pub fn take(&mut self, ok: bool) -> Flip
         ensures added { (rise fall : ℕ) → (base : Base) → (results : List Bool)
             → StandsFor self.old rise fall base results

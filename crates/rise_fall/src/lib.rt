@@ -1,7 +1,7 @@
 //! The health of one checked server, from the results of its checks.
 //!
-//! Promised: a server counts as up or down exactly as the whole list of its results since its base says, where the
-//! base is the start, the end of maintenance, or a health that was forced (`specs/Health.antt`). Start at `Health`.
+//! Promised: a server counts as up or down exactly as the whole list of its results since its base says. The base is
+//! the start, the end of maintenance, or a health that was forced (`specs/Health.antt`). Start at `Health`.
 #![tactic(auto)]
 
 mod flip;

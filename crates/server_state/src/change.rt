@@ -8,7 +8,7 @@ use thiserror::Error;
 /// What an operator's command sets.
 #[derive(Clone, Copy, Debug, PartialEq, Eq, Hash)]
 pub enum Setting {
-    /// The admin state. Leaving `Maint` warms a checked server anew.
+    /// The admin state. Leaving `Maint` warms a checked server again.
     Admin(AdminState),
     /// The health of a checked server: up or down.
     Health(bool),
@@ -29,7 +29,7 @@ pub struct Change {
     pub setting: Setting,
 }
 
-/// Why a change, or a check's result, was refused. The first of these that holds is the one that is told.
+/// Why a change, or a check's result, was refused. If several of these hold, the first is returned.
 #[derive(Clone, Copy, Debug, PartialEq, Eq, Hash, Error)]
 pub enum ChangeFault {
     /// The backend has no server of this number.

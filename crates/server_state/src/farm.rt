@@ -12,7 +12,7 @@ use std::marker::Model;
 
 /// The servers of one backend, in the configuration's order.
 ///
-/// Once made it takes no memory. `serving` and `usable` cost a few machine instructions; whatever may change the
+/// Once made it allocates nothing. `serving` and `usable` cost a few machine instructions; whatever may change the
 /// usable servers costs one walk over all servers.
 #[derive(Debug, Drop)]
 pub struct Farm {
@@ -38,10 +38,10 @@ impl Farm {
     ghost use Rattle.server_state.specs.Changes.{Sets};
     ghost use Rattle.server_state.specs.Checks.{Checks};
 
-    /// The servers at the start. `settings` is at most 128 servers, and `all_backups` tells whether all backups are
-    /// usable together, where only backups are left, and not the first alone.
+    /// The servers at the start. `settings` is at most 128 servers. `all_backups` says whether all backups are usable
+    /// together, where only backups are left, and not the first alone.
     ///
-    /// It takes memory for one list of the servers, which is all that a farm ever has; want of memory is its one error.
+    /// It allocates memory for one list of the servers, which is all that a farm ever has. The only error is out of memory.
     pub fn new(
         alloc: Global,
         settings: &[ServerSettings],
@@ -69,8 +69,8 @@ impl Farm {
         }
     }
 
-    /// The servers that new pins may go to: those that aren't backups, serve, are ready and have a weight above 0; if
-    /// there are none, the first backup with these properties or, with `all_backups`, all of them.
+    /// The servers that new pins may go to: those that aren't backups, serve, are ready and have a weight above 0. If
+    /// there are none, it is the first backup with these properties or, with `all_backups`, all of them.
     pub fn usable(&self) -> ServerSet
         ensures exact { result ≡ usable self.now }
         ensures members { (s : ℕ) → has result s
@@ -137,7 +137,7 @@ impl Farm {
         result
     }
 
-    /// Sets the admin state. A checked server that leaves `Maint` is warmed anew: it counts as up, and is one failure
+    /// Sets the admin state. A checked server that leaves `Maint` is warmed again: it counts as up, and is one failure
     /// from down. Refused as by `apply`, for `NoSuchServer` alone.
     pub fn set_admin(&mut self, server: ServerId, admin: AdminState) -> Result<(), ChangeFault>
         ensures { Sets self.old self.new result server (Setting.Admin admin) }

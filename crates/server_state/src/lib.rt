@@ -2,7 +2,7 @@
 //!
 //! Promised: `Farm::serving` and `Farm::usable` are as `specs/Farm.antt` defines them, whatever changes and check
 //! results came before; each change is refused exactly where it must be, and then changes nothing. A `Farm` that was
-//! made takes no memory. Start at `Farm`.
+//! made allocates nothing. Start at `Farm`.
 #![tactic(auto)]
 
 mod change;

@@ -134,7 +134,7 @@ impl Server {
         Ok(())
     }
 
-    /// Sets the admin state. A checked server that leaves maintenance is warmed anew.
+    /// Sets the admin state. A checked server that leaves maintenance is warmed again.
     fn set_admin(&mut self, admin: AdminState)
         ensures { self.new ≡ with_setting self.old (Setting.Admin admin) }
     {

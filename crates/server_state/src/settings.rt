@@ -51,7 +51,7 @@ pub struct CheckSettings {
     pub ghost fall_to: { fall ≤ MAX_STREAK },
 }
 
-/// A server as the configuration has it.
+/// A server as the configuration defines it.
 #[derive(Clone, Copy, Debug, PartialEq, Eq)]
 pub struct ServerSettings {
     /// `Maint` for a server that is `disabled`, else `Ready`.

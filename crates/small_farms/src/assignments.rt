@@ -18,7 +18,7 @@ impl Judged {
     }
 }
 
-/// Where the pins go, one after another, and how well that does. Behind the last pin there are zeros.
+/// Where the pins go, one after another, and how well that does. After the last pin there are zeros.
 #[derive(Clone, Copy, Debug)]
 pub(crate) struct Found {
     pub judged: Judged,

@@ -44,7 +44,7 @@ impl Draft {
         }
     }
 
-    /// Puts a server behind the others. False where it may not stand there.
+    /// Appends a server. False where it may not stand there.
     pub(crate) fn add_server(&mut self, server: Server, price: u64) -> Result<bool, AllocError> {
         let at = self.servers.len();
         if at >= MAX_SERVERS || !self.rows.is_empty() || !is_new(&self.servers, server.name) {
@@ -58,7 +58,7 @@ impl Draft {
         Ok(true)
     }
 
-    /// Puts a row behind the others. False where it may not stand there.
+    /// Appends a row. False where it may not stand there.
     pub(crate) fn add_row(&mut self, row: Row) -> Result<bool, AllocError> {
         if row.count == 0 || u64::from(row.count) > MAX_PINS - u64::from(self.pins) {
             return Ok(false);
@@ -112,7 +112,7 @@ fn or_usable(usable: ServerSet, server: &Server, number: usize) -> ServerSet
     }
 }
 
-/// Whether pins of this kind may stand in a plan of so many servers, of which these are usable.
+/// Whether pins of this kind may be in a plan of so many servers, of which these are usable.
 fn may_stand(servers: usize, usable: ServerSet, kind: &PinKind) -> bool
     ensures { IsTrue result → MayStand servers usable kind.now }
 {
@@ -138,7 +138,7 @@ fn is_below(servers: usize, place: Place) -> bool
     }
 }
 
-/// Whether the row stands strictly behind the last of the rows.
+/// Whether the row comes strictly after the last of the rows.
 fn comes_next(rows: &[Row], row: &Row) -> bool
     ensures { result ≡ comes_next rows.now row.now }
 {

@@ -3,8 +3,8 @@
 use crate::farm::{Farm, SmallPin, Spot};
 use std::alloc::{AllocError, Global};
 
-/// One of the assignments. Those that differ only in which pins of one kind go where have one plan, and one of them is here:
-/// the one in which later pins of a kind go to no lower spots.
+/// One of the assignments. Those that differ only in which pins of one kind go where have one plan. One of them is here: the one in
+/// which later pins of a kind go to no lower spots.
 #[derive(Debug, Drop)]
 pub(crate) struct Every {
     spots: Vec<Spot>,
@@ -22,7 +22,7 @@ impl Every {
         &self.spots
     }
 
-    /// Goes on to the next one: the last pin that can goes one spot further, and those behind it as low as they may. False
+    /// Goes on to the next one: the last pin that can goes one spot further, and those after it as low as they may. False
     /// where there is none.
     pub(crate) fn advance(&mut self, farm: &Farm) -> bool {
         let servers = farm.capacities.len();
@@ -43,7 +43,7 @@ impl Every {
     }
 }
 
-/// The lowest spot of a pin behind this one.
+/// The lowest spot of a pin after this one.
 fn least_spot(pin: SmallPin, before: Option<(SmallPin, Spot)>) -> Spot {
     match before {
         Some((kind, spot)) if kind == pin => spot,

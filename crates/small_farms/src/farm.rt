@@ -75,7 +75,7 @@ impl SmallPin {
         spot == 0 || self.permitted & bit(spot - 1) != 0
     }
 
-    /// The kind as sheets and plans have it.
+    /// The kind as it is in sheets and plans.
     pub(crate) fn kind(&self) -> PinKind {
         PinKind {
             place: place_of(self.place),
@@ -84,7 +84,7 @@ impl SmallPin {
         }
     }
 
-    /// The pin as a view has it, of a farm with these usable servers: one that may go to all of them wants none.
+    /// The pin as it is in a view, of a farm with these usable servers: one that may go to all of them wants none.
     pub(crate) fn plain(&self, usable: u8) -> PlainPin {
         let want = if self.permitted == usable {
             0

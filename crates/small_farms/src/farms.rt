@@ -1,8 +1,10 @@
 //! All small farms, one after another.
 //!
-//! What makes no difference is left out, and no other farm: the order of the pins (their kinds rise), the order of the
-//! servers (the capacities rise, and the servers that aren't usable come last), two wishes of a pin with the same permitted
-//! servers, and capacities above the number of pins.
+//! What makes no difference is left out, and no other farm:
+//! - the order of the pins (their kinds rise);
+//! - the order of the servers (the capacities rise, and the servers that aren't usable come last);
+//! - two wishes of a pin with the same permitted servers;
+//! - capacities above the number of pins.
 
 use crate::farm::{Farm, SmallPin};
 use crate::rising::Rising;
@@ -35,7 +37,7 @@ pub struct Farms {
     kinds: Vec<SmallPin>,
     chosen: Rising,
     farm: Farm,
-    /// How many farms are to be passed over until the next one of the slice.
+    /// How many farms must be passed over until the next one of the slice.
     wait: u64,
 }
 

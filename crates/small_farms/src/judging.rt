@@ -85,8 +85,8 @@ impl Case<'_> {
         Ok(check(self.sheet, &plan) == self.due(spots))
     }
 
-    /// What the checker has to say of the plan of an assignment, by the rules: a pin goes only where it may, no server takes
-    /// more pins than it has room for, and of the others those alone are shown best that do as well as a best one.
+    /// What the checker has to say of the plan of an assignment, by the rules. A pin goes only where it may, and no server takes more
+    /// pins than it has room for. Of the others those alone are shown best that do as well as a best one.
     fn due(&self, spots: &[Spot]) -> Result<Score, CheckFault> {
         let mut moves = self.farm.pins.iter().zip(spots);
         if !moves.all(|(pin, spot)| pin.may_go(*spot)) {

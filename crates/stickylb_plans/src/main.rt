@@ -28,7 +28,7 @@ fn perform_words(rt: &HostRuntime) -> Result<u8, u8> {
     }
 }
 
-/// Does a job on sheets and plans, or tells the version, and gives the exit status. None where the job needs a configuration.
+/// Does a job on sheets and plans, or prints the version, and gives the exit status. None where the job needs a configuration.
 fn perform(rt: &HostRuntime, job: Job<'_>) -> Option<u8> {
     let alloc = rt.alloc();
     let (out, err) = (&mut rt.stdout(), &mut rt.stderr());

@@ -7,7 +7,7 @@ use std::alloc::{AllocError, Global};
 pub(crate) enum Kind {
     /// Sections with as many ACLs as may be, of different names, and rules each of whose tests names the last one.
     Conditions,
-    /// A `defaults` section of half the text, and frontends behind it.
+    /// A `defaults` section of half the text, and frontends after it.
     Defaults,
     /// An `option httpchk` of half the text, and servers that are all checked by it.
     LongCheck,
@@ -117,7 +117,7 @@ fn push_line(
     text.push(&line)
 }
 
-/// A server, behind the header of a backend where the last one has 128.
+/// A server, after the header of a backend where the last one has 128.
 fn push_server(alloc: Global, text: &mut Text, number: usize) -> Result<(), AllocError> {
     if number >= 64 * 128 {
         text.is_full = true;
@@ -160,7 +160,7 @@ struct Text {
 }
 
 impl Text {
-    /// Puts the part behind the others, if it fits.
+    /// Appends the part, if it fits.
     fn push(&mut self, part: &[u8]) -> Result<(), AllocError> {
         if self.is_full || self.bytes.len().saturating_add(part.len()) > self.size {
             self.is_full = true;

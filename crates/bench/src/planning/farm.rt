@@ -24,7 +24,7 @@ pub(crate) struct Farm {
     pub(crate) seed: u32,
 }
 
-/// How often kinds of pins are drawn anew where some were drawn before.
+/// How often kinds of pins are drawn again where some were drawn before.
 const ROUNDS: u32 = 64;
 
 impl Farm {
@@ -70,7 +70,7 @@ impl Farm {
         Ok(())
     }
 
-    /// As many kinds of pins as there are to be groups, all unlike, in rising order.
+    /// As many kinds of pins as the sheet must have groups, all unlike, in rising order.
     fn kinds(&self, alloc: Global, dice: &mut Dice) -> Result<Vec<PinKind>> {
         let wanted = self.groups as usize;
         let mut kinds = Vec::with_capacity(alloc, wanted)?;
@@ -108,7 +108,7 @@ impl Farm {
         servers
     }
 
-    /// The server so many steps behind another one, in a ring.
+    /// The server so many steps after another one, in a ring.
     fn server_behind(&self, server: u32, steps: u32) -> u32 {
         server
             .saturating_add(steps)
@@ -116,7 +116,7 @@ impl Farm {
             .unwrap_or(0)
     }
 
-    /// Whether the server is off: of the servers, so many as are to be off lie equally far apart.
+    /// Whether the server is off. The servers that must be off lie equally far apart.
     fn is_off(&self, server: u32) -> bool {
         let before = self.off_before(server);
         before != self.off_before(server.saturating_add(1))
@@ -157,7 +157,7 @@ impl Farm {
     }
 
     /// The lines of the groups. Each has from half to one and a half times as many pins as an even share, as long as there
-    /// are enough for one in each, and the last one all that are left.
+    /// are enough for one in each. The last one has all that are left.
     fn add_groups(
         &self,
         alloc: Global,

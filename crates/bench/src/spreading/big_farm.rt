@@ -1,4 +1,4 @@
-//! A farm of 128 servers, the first 8 of which aren't usable: every other pin is at one of these and has to move, and the
+//! A farm of 128 servers, the first 8 of which aren't usable. Every other pin is at one of these and has to move; the
 //! others stay at one of the next 40. The plan sends the pins of each lost server to all 120 usable ones alike.
 
 use anyhow::{Result, bail};

@@ -9,7 +9,7 @@ use crate::chunks::room::{ROOM, Room};
 use crate::fault::BodyFault;
 use http_relay_wire::Wire;
 
-/// Judges the data of a chunk, and the CR LF behind it.
+/// Judges the data of a chunk, and the CR LF after it.
 pub(crate) fn pass_data<C: Wire, S: Wire>(
     at_hand: &mut AtHand<'_>,
     client: &mut C,
@@ -60,8 +60,8 @@ fn pass_bytes<C: Wire, S: Wire>(
     }
 }
 
-/// How many bytes at least must come where so many are left of a chunk's data: these, the line end, and the shortest body. No more
-/// than fit into a room are told.
+/// How many bytes at least must come where so many are left of a chunk's data: these, the line end, and the shortest body. The answer
+/// is never more than fit into a room.
 fn least_to_come(left: u64) -> usize
     requires { 0 < left }
     ensures { (0 < result) × (result ≤ left + 6) }

@@ -19,7 +19,7 @@ use http_relay_wire::Wire;
 pub(crate) enum Part {
     /// The size line of a chunk.
     SizeLine,
-    /// The CR LF behind a chunk's data.
+    /// The CR LF after a chunk's data.
     DataEnd,
     /// The trailer, with its empty line.
     Trailer,
@@ -28,17 +28,17 @@ pub(crate) enum Part {
 /// What is seen of a part in the bytes that have come.
 #[derive(Clone, Copy, Debug, PartialEq, Eq)]
 pub(crate) enum Sight {
-    /// It is there: how many bytes it has, and the size that it tells if it is a size line.
+    /// It is there: how many bytes it has, and the size that it gives if it is a size line.
     Whole(usize, u64),
-    /// It isn't there yet, and may still come: so many bytes at least must come, of it and of the body behind it.
+    /// It isn't there yet, and may still come: at least so many bytes must come, of it and of the body after it.
     Short(usize),
     /// It can't come any more.
     Bad,
 }
 
-/// Judges the next part of the body, and answers the size that it tells if it is a size line. No byte behind the body is taken, since no
-/// more bytes are taken at once than must still come, and none behind bytes that can become no part, since they are judged before more
-/// are waited for.
+/// Judges the next part of the body, and answers the size that it gives if it is a size line. No byte after the body is taken, since
+/// no more bytes are taken at once than must still come. None is taken after bytes that can become no part, since they are judged
+/// before more are waited for.
 pub(crate) fn pass_part<C: Wire, S: Wire>(
     part: Part,
     at_hand: &mut AtHand<'_>,

@@ -14,7 +14,7 @@ use std::marker::Model;
 /// The bytes of the room that a chunked body goes through.
 pub(crate) const ROOM: usize = 16384;
 
-/// The bytes of a chunked body between the client and the server: those that were judged and wait to go out, and behind them those
+/// The bytes of a chunked body between the client and the server: those that were judged and wait to go out, and after them those
 /// that were taken ahead.
 #[derive(Drop)]
 pub(crate) struct Room {
@@ -136,7 +136,7 @@ impl Room {
     }
 }
 
-/// Takes at most so many of the client's next bytes behind those that fill the front, and answers how many these were.
+/// Takes at most so many of the client's next bytes after those that fill the front, and answers how many these were.
 fn take_behind<C: Wire>(
     at_hand: &mut AtHand<'_>,
     client: &mut C,

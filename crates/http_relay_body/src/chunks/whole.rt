@@ -21,7 +21,7 @@ struct WholeChunk {
 struct Found {
     /// How many bytes it has.
     len: usize,
-    /// The size that it tells if it is a size line.
+    /// The size that it gives if it is a size line.
     value: u64,
 }
 
@@ -72,7 +72,7 @@ fn find_chunk(text: &[u8]) -> Option<WholeChunk>
     })
 }
 
-/// Looks for so much data, with the line end behind it, and answers how many bytes both have.
+/// Looks for so much data, with the line end after it, and answers how many bytes both have.
 fn find_data(size: u64, text: &[u8]) -> Option<usize>
     ensures { FindsData size text.now result }
 {

@@ -3,7 +3,7 @@ ghost use Rattle.http_relay_body.specs.declared.chunks.part.Part.TheVariants.{Da
 
 use crate::chunks::part::Sight;
 
-/// Looks for the line end behind a chunk's data at the front of this text. A body goes on behind it: 4 bytes at least.
+/// Looks for the line end after a chunk's data at the front of this text. A body goes on after it: 4 bytes at least.
 pub(crate) fn look(text: &[u8]) -> Sight
     ensures { Sees DataEnd text.now result }
 {

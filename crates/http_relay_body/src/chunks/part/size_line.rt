@@ -26,7 +26,7 @@ pub(crate) fn look(text: &[u8]) -> Sight
     }
 }
 
-/// Says how many bytes must come behind this text, which is a front of a size line but for its limit.
+/// Says how many bytes must come after this text, which is a front of a size line apart from its limit.
 fn look_short(text: &[u8]) -> Sight
     requires none { HasNoChunkLine text.now }
     requires may { MayBecomeChunkLine text.now }
@@ -39,7 +39,7 @@ fn look_short(text: &[u8]) -> Sight
     Sight::Bad
 }
 
-/// How many bytes the shortest size line has behind this text, its front.
+/// How many bytes the shortest size line has after this text, its front.
 fn needs(text: &[u8]) -> usize
     requires none { HasNoChunkLine text.now }
     requires may { MayBecomeChunkLine text.now }
@@ -55,7 +55,7 @@ fn needs(text: &[u8]) -> usize
     b"\r\n".len()
 }
 
-/// How many bytes at least must come behind a size line that tells this size.
+/// How many bytes at least must come after a size line that gives this size.
 fn least_behind(size: usize) -> usize
     requires { size ≤ 16 * ROOM }
     ensures { result ≡ least_behind_size size }
@@ -66,7 +66,7 @@ fn least_behind(size: usize) -> usize
     size + 2 + LEAST_BODY_BYTES
 }
 
-/// A size that each line that begins so tells at least. It is the size that the digits so far tell, where that is less than a room's.
+/// A size that each line that begins so has at least. It is the size that the digits so far give, where that is less than a room's.
 fn least_size(text: &[u8]) -> usize
     ensures within { result ≤ 16 * ROOM }
     ensures least { (size : ℕ) (rest : List ℕ) → IsSizeText size (text.now ++ rest) → result ≤ size }

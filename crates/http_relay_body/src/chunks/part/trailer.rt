@@ -13,8 +13,8 @@ pub(crate) const MOST_TRAILER_BYTES: usize = 8192;
 /// The most fields that a trailer may have.
 const MOST_FIELDS: usize = 100;
 
-/// How far a trailer was walked through. Each look goes on where the last one stopped, so each byte is looked at once, however few come
-/// at a time.
+/// How far a trailer was walked through. Each look goes on where the last one stopped, so each byte is looked at once, however few
+/// come at a time.
 #[derive(Clone, Copy)]
 pub(crate) struct Walk {
     /// The bytes that were looked at.
@@ -70,7 +70,8 @@ fn look_whole(text: &[u8], bytes: usize, fields: usize) -> Sight
     Sight::Bad
 }
 
-/// Says how many bytes must come behind this text, a front of a trailer but for the limits, in which so many fields end.
+/// Says how many bytes must come after this text, a front of a trailer apart from the limits, in which so many fields
+/// end.
 fn look_short(text: &[u8], place: Place, fields: usize) -> Sight
     requires few { fields ≤ length text.now }
     requires stands { Stands place fields text.now }
@@ -90,7 +91,7 @@ enum Place {
     Start,
     /// In a field's name.
     Name,
-    /// Behind a field's colon.
+    /// After a field's colon.
     Value,
     /// In the CR LF that ends a field.
     FieldEnd,
@@ -124,7 +125,7 @@ impl Place {
         }
     }
 
-    /// How many fields end where a text comes to this place: a line begins behind a field.
+    /// How many fields end where a text comes to this place: a line begins after a field.
     fn fields_ended(self) -> usize
         ensures { (result ≡ fields_ended self) × (result ≤ 1) }
     {
@@ -177,7 +178,7 @@ fn behind_name(byte: u8) -> Step
     Step::Never
 }
 
-/// What it leads to behind a field's colon.
+/// What it leads to after a field's colon.
 fn behind_value(byte: u8) -> Step
     ensures { (fields : ℕ) (rest : List ℕ) → IsRest Value fields (byte ∷ rest) ↔ IsBehind result fields rest }
 {

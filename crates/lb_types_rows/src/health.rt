@@ -4,7 +4,6 @@ use rise_fall::Flip::{self, Stays, WentDown, WentUp};
 use rise_fall::Health;
 use std::alloc::{AllocError, Global};
 use std::process::Abort;
-use std::test::Fail;
 
 /// What happens to a server's health.
 #[derive(Clone, Copy, Debug)]
@@ -19,7 +18,7 @@ enum Step {
 
 use Step::{Forced, Rewarmed, Takes};
 
-// Each step with whether the server counts as up behind it. At the start one failure brings it down; then two successes in a row bring
+// Each step with whether the server counts as up after it. At the start one failure brings it down; then two successes in a row bring
 // it up, and three failures in a row down, whatever came before them.
 const OF_TWO_AND_THREE: &[&[(Step, bool)]] = &[
     &[
@@ -54,7 +53,7 @@ const OF_ONE_AND_ONE: &[(Step, bool)] = &[
     (Takes(true, Stays), true),
 ];
 
-/// Takes the steps, and compares behind each.
+/// Takes the steps, and compares after each.
 fn go_through(rt: &impl Abort, mut health: Health, steps: &[(Step, bool)]) {
     for (step, up) in steps {
         let is_right = match step {
@@ -134,7 +133,7 @@ fn health_at(rise: u16, fall: u16, base: Base) -> Health
     health
 }
 
-/// Takes eight results, the bits of `bits` from the lowest on, and compares at the start and behind each.
+/// Takes eight results, the bits of `bits` from the lowest on, and compares at the start and after each.
 fn compare(
     rt: &impl Abort,
     mut health: Health,
@@ -142,14 +141,14 @@ fn compare(
     rise: u16,
     fall: u16,
     bits: u32,
-) -> Result<(), AllocError> {
+) {
     let mut rest = bits;
     let mut up = is_up_plainly(rise, fall, &results);
     assert_eq!(rt; health.is_up(), up);
     for _ in 0..8 {
         let ok = rest % 2 == 1;
         rest /= 2;
-        results.push(ok)?;
+        results.push(ok).expect(rt, "memory");
         let now = is_up_plainly(rise, fall, &results);
         let flip = if now == up {
             Stays
@@ -162,22 +161,18 @@ fn compare(
         assert_eq!(rt; told, (flip, now), "rise {rise} fall {fall} {results:?}");
         up = now;
     }
-    Ok(())
 }
 
 #[test]
-fn every_list_of_up_to_eight_results_says_what_the_definition_says(
-    rt: HostRuntime,
-) -> Result<(), Fail> {
+fn every_list_of_up_to_eight_results_says_what_the_definition_says(rt: HostRuntime) {
     for rise in 1..4u16 {
         for fall in 1..4u16 {
             for base in [Base::Fresh, Base::ForcedUp, Base::ForcedDown] {
                 for bits in 0..256 {
-                    let results = before(rt.alloc(), rise, fall, base)?;
-                    compare(&rt, health_at(rise, fall, base), results, rise, fall, bits)?;
+                    let results = before(rt.alloc(), rise, fall, base).expect(&rt, "memory");
+                    compare(&rt, health_at(rise, fall, base), results, rise, fall, bits);
                 }
             }
         }
     }
-    Ok(())
 }

@@ -2,7 +2,6 @@ use capacity_book::{Book, CloseFault, OpenFault};
 use lb_types::ServerId;
 use server_state::{AdminState, Farm, ServerSettings};
 use std::process::Abort;
-use std::test::Fail;
 
 /// A server that holds two pins, and has one connection at most.
 fn settings() -> ServerSettings {
@@ -16,7 +15,7 @@ fn settings() -> ServerSettings {
     }
 }
 
-/// What happens in a farm of two servers, of which the book has the first alone. The server is told by its number.
+/// What happens in a farm of two servers, of which the book has the first alone. The server is given by its number.
 #[derive(Clone, Copy, Debug)]
 enum Step {
     /// A connection is asked for, with this answer.
@@ -31,7 +30,7 @@ enum Step {
 
 use Step::{Admin, Close, Open, Unlimited};
 
-// Each step with the connections that are open at the first server behind it. A server that is not in the book does not serve.
+// Each step with the connections that are open at the first server after it. A server that is not in the book does not serve.
 const SCRIPTS: &[&[(Step, u64)]] = &[
     &[
         (Open(0, Ok(())), 1),
@@ -67,7 +66,7 @@ fn is_answered(farm: &mut Farm, book: &mut Book, step: &Step) -> bool {
     }
 }
 
-/// Takes the steps, and compares behind each.
+/// Takes the steps, and compares after each.
 fn go_through(rt: &impl Abort, farm: &mut Farm, book: &mut Book, steps: &[(Step, u64)]) {
     let [a, missing] = [ServerId::new(0), ServerId::new(2)];
     for (step, open) in steps {
@@ -80,12 +79,12 @@ fn go_through(rt: &impl Abort, farm: &mut Farm, book: &mut Book, steps: &[(Step,
 }
 
 #[test]
-fn connections_are_refused_where_the_server_is_full_or_does_not_serve(
-    rt: HostRuntime,
-) -> Result<(), Fail> {
+fn connections_are_refused_where_the_server_is_full_or_does_not_serve(rt: HostRuntime) {
     for steps in SCRIPTS {
-        let mut farm = Farm::new(rt.alloc(), &[settings(), settings()], false)?;
-        let mut book = Book::new(rt.alloc(), 1)?;
+        let mut farm = Farm::new(rt.alloc(), &[settings(), settings()], false).expect(
+            &rt, "memory",
+        );
+        let mut book = Book::new(rt.alloc(), 1).expect(&rt, "memory");
         go_through(&rt, &mut farm, &mut book, *steps);
     }
     let numbers = [
@@ -94,7 +93,6 @@ fn connections_are_refused_where_the_server_is_full_or_does_not_serve(
         CloseFault::NotOpen.number(),
     ];
     assert_eq!(rt; numbers, [30, 31, 32]);
-    Ok(())
 }
 
 /// Counts one pin fewer, if there is one.
@@ -105,10 +103,10 @@ fn take_away(book: &mut Book, server: ServerId) {
 }
 
 #[test]
-fn pins_go_where_there_is_room(rt: HostRuntime) -> Result<(), Fail> {
+fn pins_go_where_there_is_room(rt: HostRuntime) {
     let (a, b, missing) = (ServerId::new(0), ServerId::new(1), ServerId::new(2));
-    let mut farm = Farm::new(rt.alloc(), &[settings(), settings()], false)?;
-    let mut book = Book::new(rt.alloc(), 2)?;
+    let mut farm = Farm::new(rt.alloc(), &[settings(), settings()], false).expect(&rt, "memory");
+    let mut book = Book::new(rt.alloc(), 2).expect(&rt, "memory");
     for count in [1, 2, 2] {
         if book.room(a, &farm) {
             book.place(a, &farm);
@@ -117,23 +115,21 @@ fn pins_go_where_there_is_room(rt: HostRuntime) -> Result<(), Fail> {
     }
     assert!(rt; !book.room(a, &farm) && book.room(b, &farm) && !book.room(missing, &farm));
     // Pins above a lowered capacity stay, and one that leaves makes no room yet.
-    farm.set_maxpins(a, 1)?;
+    farm.set_maxpins(a, 1).expect(&rt, "a change");
     for (count, has_room) in [(1, false), (0, true)] {
         take_away(&mut book, a);
         assert_eq!(rt; (book.pins(a), book.room(a, &farm)), (count, has_room));
     }
-    Ok(())
 }
 
 #[test]
-fn a_reload_sets_the_pins_and_leaves_the_connections(rt: HostRuntime) -> Result<(), Fail> {
+fn a_reload_sets_the_pins_and_leaves_the_connections(rt: HostRuntime) {
     let (a, b) = (ServerId::new(0), ServerId::new(1));
-    let farm = Farm::new(rt.alloc(), &[settings(), settings()], false)?;
-    let mut book = Book::new(rt.alloc(), 2)?;
+    let farm = Farm::new(rt.alloc(), &[settings(), settings()], false).expect(&rt, "memory");
+    let mut book = Book::new(rt.alloc(), 2).expect(&rt, "memory");
     assert_eq!(rt; book.open(b, &farm), Ok(()));
     book.reload(&[3, 16777216]);
     let told = [book.pins(a), book.pins(b)];
     let open = [book.connections(a), book.connections(b)];
     assert_eq!(rt; (told, open), ([3, 16777216], [0, 1]));
-    Ok(())
 }

@@ -7,7 +7,6 @@ use lb_types::{Moment, ServerId};
 use pin_set::PinKey;
 use std::alloc::Global;
 use std::process::Abort;
-use std::test::Fail;
 
 /// The key that a request is to have.
 #[derive(Clone, Copy, Debug)]
@@ -17,7 +16,7 @@ enum Key {
     Ip([u8; 4]),
 }
 
-/// A head at a frontend, and what is said of it. Servers are told by their places.
+/// A head at a frontend, and what is said of it. Servers are given by their places.
 struct Row {
     frontend: usize,
     method: &'static str,
@@ -144,34 +143,30 @@ fn is_request(request: &Request, row: &Row) -> bool {
 }
 
 /// The head's backend is the row's, and is asked what the row says.
-fn expect_request(rt: &impl Abort, alloc: Global, config: &Config, row: &Row) -> Result<(), Fail> {
-    let Some(routes) = ConfigRoutes::at(config, row.frontend) else {
-        panic!(rt; "no frontend {}", row.frontend);
-    };
-    let fields = fields(alloc, row.lines)?;
+fn expect_request(rt: &impl Abort, alloc: Global, config: &Config, row: &Row) {
+    let routes = ConfigRoutes::at(config, row.frontend).expect(rt, "a frontend");
+    let fields = fields(alloc, row.lines).expect(rt, "memory");
     let head = head(row.method, row.target, &fields, row.source);
-    let Some(backend) = routes.backend(&head) else {
-        panic!(rt; "no backend for {}", row.target);
-    };
-    let request = routes.request(alloc, backend, &head, Moment::from_millis(7))?;
+    let backend = routes.backend(&head).expect(rt, "a backend");
+    let request = routes
+        .request(alloc, backend, &head, Moment::from_millis(7))
+        .expect(rt, "memory");
     assert!(rt;
         backend == row.backend && is_request(&request, row),
         "{} {}: {backend}, {request:?}",
         row.method,
         row.target
     );
-    Ok(())
 }
 
 // The backend of each head, and what it is asked: the key cut to the table's length, the servers of the rules in their order, and the
 // cost of the first rule that applies.
 #[test]
-fn backends_are_asked_what_the_rules_make_of_heads(rt: HostRuntime) -> Result<(), Fail> {
+fn backends_are_asked_what_the_rules_make_of_heads(rt: HostRuntime) {
     let config = farm(&rt, rt.alloc());
     for row in ROWS {
-        expect_request(&rt, rt.alloc(), &config, row)?;
+        expect_request(&rt, rt.alloc(), &config, row);
     }
-    Ok(())
 }
 
 /// Whether a frontend of tools has no backend for `/`, and no frontend is the third one.
@@ -185,8 +180,7 @@ fn goes_nowhere(config: &Config) -> bool {
 
 // Where no rule applies and there is no default, no backend takes the head. What is no frontend has no routes.
 #[test]
-fn some_heads_go_nowhere(rt: HostRuntime) -> Result<(), Fail> {
+fn some_heads_go_nowhere(rt: HostRuntime) {
     let config = farm(&rt, rt.alloc());
     assert!(rt; goes_nowhere(&config));
-    Ok(())
 }

@@ -7,7 +7,6 @@ use lb_routes::ConfigRoutes;
 use lb_types::ServerId;
 use std::net::Ipv4Addr;
 use std::process::Abort;
-use std::test::Fail;
 
 /// The last number of an address 127.0.0.x, a port, and the limits to connect, for each read and write, and in the queue, in
 /// milliseconds.
@@ -77,12 +76,9 @@ fn is_way(found: Option<Target>, server: ServerId, wanted: Option<Way>) -> bool 
 /// The row's server is reached as it says.
 fn expect_target(rt: &impl Abort, config: &Config, row: &Row) {
     let (frontend, target, forwards, number, wanted) = *row;
-    let Some(routes) = ConfigRoutes::at(config, frontend) else {
-        panic!(rt; "no frontend {frontend}");
-    };
-    let Some(backend) = routes.backend(&head("GET", target, &[], [192, 0, 2, 1])) else {
-        panic!(rt; "no backend for {target}");
-    };
+    let routes = ConfigRoutes::at(config, frontend).expect(rt, "a frontend");
+    let head = head("GET", target, &[], [192, 0, 2, 1]);
+    let backend = routes.backend(&head).expect(rt, "a backend");
     let server = ServerId::new(number % 128);
     let found = routes.target(backend, server);
     assert!(rt;
@@ -93,12 +89,11 @@ fn expect_target(rt: &impl Abort, config: &Config, row: &Row) {
 
 // How the servers of a backend are reached: the queue's limit is its own where it has one, and else that of connecting.
 #[test]
-fn servers_are_reached_under_the_limits_of_their_backend(rt: HostRuntime) -> Result<(), Fail> {
+fn servers_are_reached_under_the_limits_of_their_backend(rt: HostRuntime) {
     let config = farm(&rt, rt.alloc());
     for row in ROWS {
         expect_target(&rt, &config, row);
     }
-    Ok(())
 }
 
 /// How long the clients of this frontend may take, if there is one.
@@ -109,9 +104,8 @@ fn client_limit(config: &Config, place: usize) -> Option<Option<u32>> {
 
 // Only one frontend limits how long its clients may take.
 #[test]
-fn frontends_limit_their_clients(rt: HostRuntime) -> Result<(), Fail> {
+fn frontends_limit_their_clients(rt: HostRuntime) {
     let config = farm(&rt, rt.alloc());
     let found = (client_limit(&config, SHOP), client_limit(&config, TOOLS));
     assert_eq!(rt; found, (Some(Some(10000)), Some(None)));
-    Ok(())
 }

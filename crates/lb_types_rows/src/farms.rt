@@ -6,7 +6,6 @@ use server_state::{
     AdminState, Change, ChangeFault, CheckSettings, Checked, Farm, ServerSettings, Setting,
 };
 use std::process::Abort;
-use std::test::Fail;
 
 /// A server of weight 1, without checks.
 pub(crate) fn plain(backup: bool) -> ServerSettings {
@@ -56,8 +55,10 @@ const CHANGES: &[(u8, Setting, Result<(), (ChangeFault, u16)>)] = &[
 ];
 
 #[test]
-fn each_change_is_refused_for_the_first_cause(rt: HostRuntime) -> Result<(), Fail> {
-    let mut farm = Farm::new(rt.alloc(), &[plain(false), checked(2, 3)], false)?;
+fn each_change_is_refused_for_the_first_cause(rt: HostRuntime) {
+    let mut farm = Farm::new(rt.alloc(), &[plain(false), checked(2, 3)], false).expect(
+        &rt, "memory",
+    );
     make_changes(&rt, &mut farm);
     let [plain_one, missing] = [ServerId::new(0), ServerId::new(2)];
     let told = (
@@ -70,7 +71,6 @@ fn each_change_is_refused_for_the_first_cause(rt: HostRuntime) -> Result<(), Fai
     assert_eq!(rt; told, (256, 4294967295, 16777216, 0, 2));
     let told = (farm.check(plain_one, true), farm.check(missing, true));
     assert_eq!(rt; told, (Err(NotChecked), Err(NoSuchServer)));
-    Ok(())
 }
 
 fn make_changes(rt: &impl Abort, farm: &mut Farm) {
@@ -95,7 +95,7 @@ enum Step {
 
 use Step::{Check, Set};
 
-// Each step, and whether the server serves and is usable behind it.
+// Each step, and whether the server serves and is usable after it.
 const SCRIPTS: &[&[(Step, bool, bool)]] = &[
     &[
         (Set(Setting::Weight(7)), true, true),
@@ -135,7 +135,7 @@ fn set(farm: &mut Farm, server: ServerId, setting: Setting) -> Result<(), Change
     }
 }
 
-/// Takes the steps at the first server, and compares behind each.
+/// Takes the steps at the first server, and compares after each.
 fn go_through(rt: &impl Abort, farm: &mut Farm, steps: &[(Step, bool, bool)]) {
     let a = ServerId::new(0);
     for (step, serves, usable) in steps {
@@ -149,22 +149,20 @@ fn go_through(rt: &impl Abort, farm: &mut Farm, steps: &[(Step, bool, bool)]) {
 }
 
 #[test]
-fn servers_through_settings_checks_and_maintenance(rt: HostRuntime) -> Result<(), Fail> {
+fn servers_through_settings_checks_and_maintenance(rt: HostRuntime) {
     for steps in SCRIPTS {
-        let mut farm = Farm::new(rt.alloc(), &[checked(2, 3)], false)?;
+        let mut farm = Farm::new(rt.alloc(), &[checked(2, 3)], false).expect(&rt, "memory");
         go_through(&rt, &mut farm, *steps);
     }
-    Ok(())
 }
 
 #[test]
-fn a_server_has_what_it_is_set_to(rt: HostRuntime) -> Result<(), Fail> {
+fn a_server_has_what_it_is_set_to(rt: HostRuntime) {
     let a = ServerId::new(0);
-    let mut farm = Farm::new(rt.alloc(), &[checked(2, 3)], false)?;
-    farm.set_weight(a, 7)?;
-    farm.set_maxconn(a, 8)?;
-    farm.set_maxpins(a, 9)?;
+    let mut farm = Farm::new(rt.alloc(), &[checked(2, 3)], false).expect(&rt, "memory");
+    farm.set_weight(a, 7).expect(&rt, "a change");
+    farm.set_maxconn(a, 8).expect(&rt, "a change");
+    farm.set_maxpins(a, 9).expect(&rt, "a change");
     let told = (farm.weight(a), farm.max_connections(a), farm.capacity(a));
     assert_eq!(rt; told, (7, 8, 9));
-    Ok(())
 }

@@ -3,7 +3,6 @@ use lb_types::{ServerId, ServerSet};
 use server_state::{AdminState, Farm, ServerSettings};
 use std::alloc::Global;
 use std::process::Abort;
-use std::test::Fail;
 
 /// The set of the servers whose bits are set, of the first eight.
 fn set_of(bits: u8) -> ServerSet {
@@ -20,22 +19,23 @@ fn set_of(bits: u8) -> ServerSet {
 
 // a plain, b and c backups, a in maintenance: b alone, or both under `allbackups`. With weight 0 on b: c in both cases.
 #[test]
-fn the_first_backup_with_a_weight_is_usable_or_all_of_them(rt: HostRuntime) -> Result<(), Fail> {
+fn the_first_backup_with_a_weight_is_usable_or_all_of_them(rt: HostRuntime) {
     for (all_backups, backups) in [(false, 0b010), (true, 0b110)] {
         let mut farm = Farm::new(
             rt.alloc(),
             &[plain(false), plain(true), plain(true)],
             all_backups,
-        )?;
+        )
+        .expect(&rt, "memory");
         let at_first = farm.usable();
-        farm.set_admin(ServerId::new(0), AdminState::Maint)?;
+        farm.set_admin(ServerId::new(0), AdminState::Maint)
+            .expect(&rt, "memory");
         let in_maintenance = farm.usable();
-        farm.set_weight(ServerId::new(1), 0)?;
+        farm.set_weight(ServerId::new(1), 0).expect(&rt, "memory");
         let told = (at_first, in_maintenance, farm.usable());
         let wanted = (set_of(0b001), set_of(backups), set_of(0b100));
         assert_eq!(rt; told, wanted, "{all_backups}");
     }
-    Ok(())
 }
 
 /// What checks say of a server.
@@ -112,13 +112,7 @@ fn case_of(kind: u32) -> Case {
 }
 
 /// Checks the checked servers once, and compares.
-fn compare(
-    rt: &impl Abort,
-    alloc: Global,
-    cases: &[Case; 4],
-    count: usize,
-    all_backups: bool,
-) -> Result<(), Fail> {
+fn compare(rt: &impl Abort, alloc: Global, cases: &[Case; 4], count: usize, all_backups: bool) {
     let settings = [
         cases[0].settings,
         cases[1].settings,
@@ -126,7 +120,7 @@ fn compare(
         cases[3].settings,
     ];
     let count = count.min(4);
-    let mut farm = Farm::new(alloc, &settings[..count], all_backups)?;
+    let mut farm = Farm::new(alloc, &settings[..count], all_backups).expect(rt, "memory");
     for (i, case) in cases.iter().enumerate() {
         let _ = farm.check(ServerId::new(i as u8), case.checks == Checks::Passed);
     }
@@ -134,13 +128,10 @@ fn compare(
     let told = (farm.usable(), farm.len(), farm.is_empty());
     let wanted = (usable_plainly(cases, all_backups), count, count == 0);
     assert_eq!(rt; told, wanted, "{cases:?}");
-    Ok(())
 }
 
 #[test]
-fn every_farm_of_up_to_four_servers_is_usable_by_the_definition(
-    rt: HostRuntime,
-) -> Result<(), Fail> {
+fn every_farm_of_up_to_four_servers_is_usable_by_the_definition(rt: HostRuntime) {
     for (count, farms) in [(0usize, 1u32), (1, 36), (2, 1296), (3, 46656), (4, 1679616)] {
         for number in 0..farms {
             let mut cases = [case_of(0); 4];
@@ -149,9 +140,8 @@ fn every_farm_of_up_to_four_servers_is_usable_by_the_definition(
                 *case = case_of(rest % 36);
                 rest /= 36;
             }
-            compare(&rt, rt.alloc(), &cases, count, false)?;
-            compare(&rt, rt.alloc(), &cases, count, true)?;
+            compare(&rt, rt.alloc(), &cases, count, false);
+            compare(&rt, rt.alloc(), &cases, count, true);
         }
     }
-    Ok(())
 }

@@ -4,16 +4,15 @@ use http_relay_wire::{Script, ScriptedWire, WireFault};
 use lb_acl::Version;
 use std::alloc::{AllocError, Global};
 use std::net::Ipv4Addr;
-use std::test::Fail;
 
 const LOCAL: Ipv4Addr = Ipv4Addr::LOCALHOST;
 
 // The servers of one line have each their own host.
 #[test]
-fn each_server_is_sent_its_own_request(rt: HostRuntime) -> Result<(), Fail> {
-    let old = RequestLine::new(rt.alloc(), b"OPTIONS", b"/", Version::Http10)?;
-    let new = RequestLine::new(rt.alloc(), b"GET", b"/h", Version::Http11)?;
-    let shared = new.share()?;
+fn each_server_is_sent_its_own_request(rt: HostRuntime) {
+    let old = RequestLine::new(rt.alloc(), b"OPTIONS", b"/", Version::Http10).expect(&rt, "memory");
+    let new = RequestLine::new(rt.alloc(), b"GET", b"/h", Version::Http11).expect(&rt, "memory");
+    let shared = new.share().expect(&rt, "memory");
     let cases: [(&RequestLine, u16, &[u8], &[u8]); 4] = [
         (&old, 80, b"OPTIONS / HTTP/1.0\r\n", b"\r\n"),
         (
@@ -36,13 +35,12 @@ fn each_server_is_sent_its_own_request(rt: HostRuntime) -> Result<(), Fail> {
         ),
     ];
     for (request, port, line, fields) in cases {
-        let rule = CheckRule::http(rt.alloc(), request, LOCAL, port)?;
+        let rule = CheckRule::http(rt.alloc(), request, LOCAL, port).expect(&rt, "memory");
         assert!(rt;
             rule.request() == Some(CheckRequest { line, fields }),
             "{port}"
         );
     }
-    Ok(())
 }
 
 #[test]
@@ -86,8 +84,8 @@ const RESPONSES: &[(&[u8], bool)] = &[
 const PIECES: &[&[usize]] = &[&[], &[1]];
 
 #[test]
-fn responses_and_their_verdicts(rt: HostRuntime) -> Result<(), Fail> {
-    let rule = rule(rt.alloc())?;
+fn responses_and_their_verdicts(rt: HostRuntime) {
+    let rule = rule(rt.alloc()).expect(&rt, "memory");
     for (response, verdict) in RESPONSES {
         for pieces in PIECES {
             let script = Script {
@@ -99,13 +97,12 @@ fn responses_and_their_verdicts(rt: HostRuntime) -> Result<(), Fail> {
             assert_eq!(rt; (told, wire.written()), (*verdict, REQUEST), "{response:?}");
         }
     }
-    Ok(())
 }
 
 // The response comes in three reads, the request goes out in two writes, one of its line and one of its fields.
 #[test]
-fn a_fault_anywhere_before_the_answer_is_a_no(rt: HostRuntime) -> Result<(), Fail> {
-    let rule = rule(rt.alloc())?;
+fn a_fault_anywhere_before_the_answer_is_a_no(rt: HostRuntime) {
+    let rule = rule(rt.alloc()).expect(&rt, "memory");
     for fault in [WireFault::Timeout, WireFault::Broken] {
         for at in 0..4 {
             let of_reads = Script {
@@ -128,7 +125,6 @@ fn a_fault_anywhere_before_the_answer_is_a_no(rt: HostRuntime) -> Result<(), Fai
             }
         }
     }
-    Ok(())
 }
 
 /// A response whose head has so many fields, of the name `X` and a value of this length.
@@ -155,13 +151,12 @@ const HEADS: &[(usize, usize, usize, bool)] = &[
 
 // A head of one field has 24 bytes, and those of its value.
 #[test]
-fn heads_at_the_limits(rt: HostRuntime) -> Result<(), Fail> {
-    let rule = rule(rt.alloc())?;
+fn heads_at_the_limits(rt: HostRuntime) {
+    let rule = rule(rt.alloc()).expect(&rt, "memory");
     for (count, length, size, verdict) in HEADS {
-        let response = response_of(rt.alloc(), *count, *length)?;
+        let response = response_of(rt.alloc(), *count, *length).expect(&rt, "memory");
         let mut wire = ScriptedWire::new(rt.alloc(), &response, Script::SMOOTH);
         let told = (response.len(), probe(&rule, &mut wire));
         assert_eq!(rt; told, (*size, *verdict), "{count} fields, {length} bytes");
     }
-    Ok(())
 }
