@@ -27,7 +27,7 @@ ANSWERS = {response(name): name.decode() for name in (b"a", b"b", b"c", b"d")}
 
 def nginx_program() -> str:
     """Where nginx is, and nothing if it isn't installed."""
-    return shutil.which("nginx", path=os.pathsep.join([os.environ.get("PATH", ""), "/usr/sbin", "/usr/local/sbin"])) or ""
+    return shutil.which("nginx", path=os.pathsep.join([os.environ.get("PATH", ""), "/usr/sbin"])) or ""
 
 
 def nginx_words(farm: Farm, text: str) -> list[str]:
