@@ -16,12 +16,13 @@ from .pins import shown_keys
 
 TEXT = (Path(__file__).resolve().parent.parent.parent / "examples" / "web.cfg").read_text()
 BACKENDS = ("pages", "api", "pictures", "closed", "tools")
-OFFICE, ELSEWHERE, PARTNER = "127.20.7.9", "127.0.2.1", "127.51.100.7"
+OFFICE, INSIDE, ELSEWHERE, PARTNER = "127.20.7.9", "127.21.7.9", "127.0.2.1", "127.51.100.7"
 
 
 class WebFarm:
     """The balancer under the shipped text, with all its servers, which answer with their names. What can't be had on one machine is
-    replaced: the socket's path, the networks of the office and of the partner by some of 127.0.0.0/8, and each port by a free one."""
+    replaced: the socket's path, the networks of the company, its office and the partner by some of 127.0.0.0/8, and each port by a free
+    one."""
 
     def __init__(self, farm: Farm) -> None:
         self.farm = farm
@@ -30,8 +31,8 @@ class WebFarm:
         self.servers: dict[str, Origin] = {}
         # Until this is set, requests whose heads say `held` aren't answered.
         self.released = threading.Event()
-        text = TEXT.replace("/run/stickylb.sock", str(farm.operators))
-        text = text.replace(" 198.51.100.", " 127.51.100.").replace(" 10.20.", " 127.20.")
+        text = TEXT.replace("/run/stickylb/operators.sock", str(farm.operators))
+        text = text.replace(" 198.51.100.", " 127.51.100.").replace(" 10.20.", " 127.20.").replace(" 10.0.0.0/8", " 127.16.0.0/12")
         text = re.sub(r"\bbind (\S+:\d+)", self.door, text)
         text = re.sub(r"\bserver (\w+) (\S+):\d+", self.server, text)
         out, err = farm.folder / "farm.out", farm.folder / "farm.err"
@@ -95,18 +96,18 @@ def requests_of_the_shop_go_to_their_backends_and_those_of_the_tools_to_theirs(f
         ("GET", "/", ELSEWHERE, "page"), ("GET", "/api/basket?x=1", ELSEWHERE, "api"), ("POST", "/api", ELSEWHERE, "page"),
         ("GET", "/big.JPG?width=9", ELSEWHERE, "picture"), ("POST", "/big.jpg", ELSEWHERE, "page"),
         ("HEAD", "/api/a.png", ELSEWHERE, "api"),
-        # The pages of the staff are for the office alone.
-        ("GET", "/staff", ELSEWHERE, ""), ("GET", "/staff", OFFICE, "page"), ("GET", "/staff/a.webp", OFFICE, "picture"),
+        # Of the company's networks the office's alone may come, whatever it asks for.
+        ("GET", "/", INSIDE, ""), ("GET", "/", OFFICE, "page"), ("GET", "/a.webp", OFFICE, "picture"),
     ]  # fmt: skip
     expect_equal("the doors", sorted(web.doors), ["*:80", "127.0.0.1:8080", "127.20.0.2:8081"])
     for method, target, source, due in rows:
         seen = [web.backend_of(source, method, target, door=door) for door in ("*:80", "127.0.0.1:8080", "127.20.0.2:8081")]
         expect_equal(f"{method} {target} of {source} at each door", seen, [due, due, "tools"])
-    expect_equal("nobody is there", web.ask(ELSEWHERE, "GET", "/staff"), "503")
+    expect_equal("nobody is there", web.ask(INSIDE, "GET", "/api/"), "503")
     refused = "serve N - -> 80 NoServer"
     expect_equal("what the closed backend was asked", web.served("closed"), [refused] * 3)
     received = [talk.received for name in ("picture1", "picture2") for talk in web.servers[name].talks if b"webp" in talk.received]
-    sent = f"GET /staff/a.webp HTTP/1.1\r\nHost: shop\r\nConnection: close\r\nX-Forwarded-For: {OFFICE}\r\n\r\n".encode()
+    sent = f"GET /a.webp HTTP/1.1\r\nHost: shop\r\nConnection: close\r\nX-Forwarded-For: {OFFICE}\r\n\r\n".encode()
     expect_equal("servers read the client's address", received, [sent, sent])
     web.ends_well()
 
@@ -124,7 +125,7 @@ def visitors_of_the_farm_are_shared_out_by_weights_and_stay_where_they_are(farm:
     preview = ("Cookie: a=1; shop_session=s7", "X-Preview: no, yes")
     expect_equal("a partner who looks at the next version", web.ask(PARTNER, "GET", "/", *preview), "page4")
     shown = web.balancer.tell("show table pages").splitlines()
-    expect_equal("the table", shown[0], "# table pages type string size 1048576 used 7")
+    expect_equal("the table", shown[0], "# table pages type string size 409600 used 7")
     expect_equal("the last pin", shown[-2].partition(" use=")[0], "key=s7 want=page4 server=page4")
     expect_equal("the last request", web.served("pages")[-1], "serve N s7 page4 -> served page4 made")
     expect_equal("keys of at most 64 bytes", shown_keys("\n".join(shown))[-2], "s" * 64)
@@ -196,7 +197,10 @@ def plan_of(web: WebFarm, backend: str) -> str:
 def the_farms_servers_have_room_for_pins_and_stand_by_as_their_lines_say(farm: Farm) -> None:
     web = WebFarm(farm)
     pages = ("page1", "page2", "page3", "page4")
-    rooms = "".join(f"server {name} cap {cap} price 0\n" for name, cap in zip(pages, (200000, 200000, 200000, 50000)))
+    caps = (200000, 200000, 200000, 100000)
+    # A full table then drops a pin before its servers refuse a new one, also if a server is lost. The table's size is below.
+    expect("room for the table's pins without any server", sum(caps) - max(caps) >= 409600)
+    rooms = "".join(f"server {name} cap {cap} price 0\n" for name, cap in zip(pages, caps))
     expect_equal("the pages", plan_of(web, "pages"), f"stickyplan 1\nversion N\n{rooms}server sorry off\nend\n\n")
     rooms = "server api1 cap 102400 price 0\nserver api2 cap 102400 price 0\n"
     expect_equal("the API", plan_of(web, "api"), f"stickyplan 1\nversion N\n{rooms}server api3 off\nend\n\n")
@@ -210,7 +214,7 @@ def the_farms_servers_have_room_for_pins_and_stand_by_as_their_lines_say(farm: F
     for name in pages:
         expect_equal(f"{name} goes", web.balancer.tell(f"disable server pages/{name}"), "\n")
     gone = "".join(f"server {name} off\n" for name in pages)
-    due = f"stickyplan 1\nversion N\n{gone}server sorry cap 1048576 price 0\nend\n\n"
+    due = f"stickyplan 1\nversion N\n{gone}server sorry cap 409600 price 0\nend\n\n"
     expect_equal("the pages without their servers", plan_of(web, "pages"), due)
     expect_equal("who answers", web.ask(ELSEWHERE, "GET", "/"), "sorry")
     web.ends_well()
