@@ -202,6 +202,24 @@ def a_server_that_falls_silent_behind_a_byte_ends_the_answer_there(farm: Farm) -
 
 
 @case
+def a_server_that_keeps_its_connection_has_its_slot_until_its_limit_although_its_client_has_all(farm: Farm) -> None:
+    def keeps(talk: Talk) -> None:
+        talk.read_request()
+        talk.send(A)
+        talk.read_to_end()
+
+    balancer, port = one_server(farm, keeps, *limits(server_limit="1s"))
+    with Client(port) as client:
+        client.send(GET)
+        expect_equal("the whole answer", client.read_bytes(len(A)), A)
+        expect_equal("the slot is open", balancer.events("web"), VISIT[:3])
+        expect_equal("nothing more", client.read_to_end(), b"")
+    balancer.wait_all_closed("web")
+    expect_equal("the events", balancer.events("web"), VISIT)
+    ends_well(balancer)
+
+
+@case
 def a_server_that_breaks_off_behind_a_byte_ends_the_answer_there(farm: Farm) -> None:
     begun = threading.Event()
 

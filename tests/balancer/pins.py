@@ -180,3 +180,23 @@ def two_backends_have_their_own_requests_and_tables(farm: Farm) -> None:
     expect_equal("the section itself", get(other), response(b"c"))
     expect_equal("one key in each table", [shown_keys(balancer.tell(f"show table {it}")) for it in ("web", "shop")], [["k1"], ["k1"]])
     expect_equal("events", ends_well(balancer, "web", "shop", "alone"), {"web": 4, "shop": 4, "alone": 4})
+
+
+@case
+def a_table_of_at_most_its_servers_room_refuses_no_new_key_and_a_larger_one_does(farm: Farm) -> None:
+    small, large = farm.port(), farm.port()
+    servers = [server(name, farm.origin(), "maxpins 5") for name in ("a", "b")]
+    sections = [
+        listen(port, f"stick-table type string size {size}", "stick on hdr(x-id)", *servers, name=name)
+        for port, size, name in ((small, 10, "small"), (large, 11, "large"))
+    ]
+    balancer = farm.start("".join(sections))
+    for port, refused in ((small, 0), (large, 10)):
+        answers = [get(port, f"x-id: k{number}") for number in range(20)]
+        expect_equal("new keys that are refused", answers.count(own(503)), refused)
+        expect_equal("the others", answers.count(A) + answers.count(B), 20 - refused)
+    expect_equal("the pins used last", shown_keys(balancer.tell("show table small")), [f"k{number}" for number in range(10, 20)])
+    expect_equal("the first pins", shown_keys(balancer.tell("show table large")), [f"k{number}" for number in range(10)])
+    expect_equal("one that has its pin", get(large, "x-id: k3"), B)
+    expect_equal("one without a key", get(large), A)
+    ends_well(balancer, "small", "large")

@@ -126,3 +126,23 @@ def most_open(balancer: Balancer) -> int:
         now += entry.reply.startswith("opened") - entry.reply.startswith("closed")
         most = max(most, now)
     return most
+
+
+@case
+def a_server_that_hangs_holds_as_many_requests_as_it_may_have_connections(farm: Farm) -> None:
+    gate, hung, good = Gate(answers(b"a")), farm.port(), farm.port()
+    limits = ("timeout client 20s", "timeout connect 20s", "timeout server 20s")
+    sections = [
+        listen(hung, *limits, "timeout queue 200", server("a", farm.origin(gate), "maxconn 4"), name="hung"),
+        listen(good, *limits, server("b", farm.origin()), name="good"),
+    ]
+    balancer = farm.start("".join(sections), ("tune.relays 2",))
+    clients = [farm.stack.enter_context(Client(hung)) for _ in range(4)]
+    for client in clients:
+        client.send(GET)
+    gate.wait_for(4)
+    expect_equal("all others", at_once(lambda _: get(hung), range(60)), [own(503)] * 60)
+    expect_equal("another backend's answer", get(good), response(b"b"))
+    gate.open()
+    expect_equal("the four", [client.read_to_end() for client in clients], [A] * 4)
+    ends_well(balancer, "hung", "good")

@@ -112,3 +112,31 @@ def backends_and_servers_are_found_by_their_names_and_a_frontend_is_no_backend(f
         expect_equal(line, balancer.tell(line), due)
     expect_equal("the journal", [balancer.events(it) for it in ("web", "shop")], [["set weight web/b 2 -> done"], []])
     ends_well(balancer, "web", "shop")
+
+
+# Targets of a page below /staff, as many servers understand them, that `path_beg /staff` doesn't find.
+PASSING = (
+    "//staff/s", "/./staff/s", "/x/../staff/s", "/%73taff/s", "/%2fstaff/s", "http://x//staff/s", "/STAFF/s", "staff/s", "a/../staff/s",
+)  # fmt: skip
+FOUND = ("/staff", "/staff/s", "/staffroom", "/staff?x", "http://x/staff/s", "https://x/staff")
+
+
+@case
+def a_rule_about_a_path_or_a_host_is_no_lock(farm: Farm) -> None:
+    port = farm.port()
+    conditions = ("use_backend closed if { path_beg /staff }", "use_backend closed if { hdr(host) admin }", "default_backend web")
+    sections = [
+        section("frontend f", f"bind 127.0.0.1:{port}", *conditions), section("backend web", server("a", farm.origin())),
+        section("backend closed"),
+    ]  # fmt: skip
+    balancer = farm.start("".join(sections))
+    for targets, due in ((PASSING, A), (FOUND, own(503))):
+        for target in targets:
+            expect_equal(target, plain(port, "GET", target, "Host: x"), due)
+    for target in ("http://admin/", "http://ADMIN/", "http://admin:80/", "https://admin/"):
+        expect_equal(target, plain(port, "GET", target, "Host: x"), A)
+    for host in ("ADMIN", "admin:80", "admin."):
+        expect_equal(host, plain(port, "GET", "/", f"Host: {host}"), A)
+    for fields in (("Host: admin",), ("Host: admin", "Host: x"), ("Host: x", "Host: admin")):
+        expect_equal(f"{fields}", plain(port, "GET", "/", *fields), own(503))
+    ends_well(balancer, "web", "closed")
