@@ -4,6 +4,7 @@ from __future__ import annotations
 
 import contextlib
 import os
+import resource
 import shutil
 import signal
 import subprocess
@@ -149,6 +150,15 @@ def ctrl_c_finishes_the_request_in_flight_and_a_hangup_does_nothing(farm: Farm) 
     supervised.signal(signal.SIGHUP, to_all=True)
     expect_equal("it answers operators", supervised.balancer.tell("show plan web"), "no plan\n\n")
     supervised.signal(signal.SIGINT, to_all=True)
+    supervised.stops_well()
+
+
+@case
+def the_program_may_open_as_many_files_as_the_hard_limit_allows(farm: Farm) -> None:
+    supervised = Supervised(farm, before=("bash", "-c", 'ulimit -Sn 500 && ulimit -Hn 2000 && exec "$0" "$@"'))
+    [program] = children(supervised.process.pid)
+    expect_equal("its limits", resource.prlimit(program, resource.RLIMIT_NOFILE), (2000, 2000))
+    supervised.signal(signal.SIGTERM)
     supervised.stops_well()
 
 
