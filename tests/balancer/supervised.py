@@ -103,10 +103,11 @@ def launch(farm: Farm, words: list[str], out: Path, err: Path, environment: dict
     return process
 
 
-def run_script(*words: str) -> Ending:
+def run_script(farm: Farm, *words: str) -> Ending:
     """How the script ends with these words."""
-    done = subprocess.run([str(SCRIPT), *words], capture_output=True, text=True, timeout=PATIENCE, check=False)
-    return Ending(done.returncode, done.stdout, done.stderr)
+    out, err = farm.folder / "script.out", farm.folder / "script.err"
+    status = launch(farm, [str(SCRIPT), *words], out, err, dict(os.environ)).wait(PATIENCE)
+    return Ending(status, out.read_text(), err.read_text())
 
 
 @case
@@ -180,20 +181,20 @@ def a_program_that_ends_by_itself_gives_the_script_its_status(farm: Farm) -> Non
     supervised.stops_well()
     config, program = farm.folder / "bad.cfg", str(farm.program)
     config.write_text(f"global\n  stats socket {farm.folder}/operators\nbackend web\n  balance uri\n")
-    expect_equal("a fault", run_script(str(config), program), Ending(1, "line 4: 29 LeftOut uri\n", ""))
+    expect_equal("a fault", run_script(farm, str(config), program), Ending(1, "line 4: 29 LeftOut uri\n", ""))
     missing = str(farm.folder / "no.cfg")
-    expect_equal("no file", run_script(missing, program), Ending(1, "", f"cannot read {missing}\n"))
+    expect_equal("no file", run_script(farm, missing, program), Ending(1, "", f"cannot read {missing}\n"))
 
 
 @case
 def without_a_command_socket_or_with_wrong_words_the_script_starts_nothing(farm: Farm) -> None:
     config = farm.folder / "web.cfg"
     config.write_text("# stats socket /run/none\n" + listen(farm.port(), "stats timeout 1s"))
-    ended = run_script(str(config), str(farm.program))
+    ended = run_script(farm, str(config), str(farm.program))
     expect_equal("the end", (ended.status, ended.out), (2, ""))
     expect("why is said", "stats socket" in ended.err)
     for words in ((), (str(config), str(farm.program), "more")):
-        ended = run_script(*words)
+        ended = run_script(farm, *words)
         expect_equal(f"{len(words)} words", (ended.status, ended.out), (2, ""))
 
 
