@@ -215,6 +215,39 @@ def an_operator_that_sends_a_byte_now_and_then_keeps_nobody_out_for_ever(farm: F
     ends_well(balancer, checked=True)
 
 
+# What a program sends to an address that it takes for a web server's, with commands in it.
+REQUESTS = [
+    *(f"{method} /;stop; HTTP/1.1" for method in ("GET", "HEAD", "POST", "PUT", "DELETE", "CONNECT", "OPTIONS", "TRACE", "PATCH")),
+    "GET /;stop; HTTP/1.0", "GET /;stop;", "GET ;stop", "OPTIONS *;stop", "BREW /;stop; HTTP/1.1", "get /;stop; HTTP/1.1", "stop; HTTP/1.1",
+    "stop; HTTP/1.0", "stop;HTTP/1.1", "stop; HTTP/1.1 ", "stop; HTTP/1.1 ; ;", "set weight web/a 9;;HTTP/1.0", "HTTP/1.1",
+    "enable server HTTP/1.1",
+]  # fmt: skip
+
+# Lines that look a little like that.
+NO_REQUESTS = [
+    ("GETS /;show plan web", UNKNOWN + "no plan\n\n"), ("GET;show plan web", UNKNOWN + "no plan\n\n"),
+    (" GET /;show plan web", UNKNOWN + "no plan\n\n"), ("show plan web; HTTP/2.0", "no plan\n\n" + UNKNOWN),
+    ("show plan web; HTTP/1.1 x", "no plan\n\n" + UNKNOWN), ("HTTP/1.1; show plan web", UNKNOWN + "no plan\n\n"),
+    ("show plan web; xHTTP/1.1", "no plan\n\n" + UNKNOWN), ("show plan web; GET /", "no plan\n\n" + UNKNOWN),
+]  # fmt: skip
+
+
+@case
+def a_request_of_http_is_one_fault_whatever_stands_in_it(farm: Farm) -> None:
+    farm.operators = ("127.0.0.1", farm.port())
+    balancer = farm_of_two(farm)
+    for line in REQUESTS:
+        expect_equal(line, balancer.tell(line), UNKNOWN)
+    for line, answer in NO_REQUESTS:
+        expect_equal(line, balancer.tell(line), answer)
+    asked = b"GET /;stop; HTTP/1.1\r\nHost: 127.0.0.1\r\nUser-Agent: curl\r\n\r\n"
+    expect_equal("a whole request", ask_operator(balancer.operators, asked), UNKNOWN.encode())
+    posted = b"POST / HTTP/1.1\r\nHost: 127.0.0.1\r\nContent-Length: 5\r\n\r\nstop\n"
+    expect_equal("one with a body", ask_operator(balancer.operators, posted), UNKNOWN.encode())
+    expect_equal("the journal", own_events(balancer), [])
+    ends_well(balancer, checked=True)
+
+
 @case
 def twenty_operators_at_once_are_all_answered(farm: Farm) -> None:
     balancer = farm_of_two(farm)

@@ -3,3 +3,4 @@ pub mod Placing
 pub mod Printings
 pub mod Reading
 pub mod Telling
+mod Trimming

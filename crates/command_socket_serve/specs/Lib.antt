@@ -3,3 +3,4 @@ pub mod Consoles
 pub mod Desks
 pub mod Lines
 pub mod Outcomes
+pub mod Requests

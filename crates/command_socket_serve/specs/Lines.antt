@@ -1,18 +1,20 @@
 -- What a line of commands is answered. That an empty line ends the answer to each command is as in HAProxy's Management Guide 2.8,
 -- section 9.3; commands and their faults are those of `command_socket`.
-use Rattle.std.specs.Prelude.{◌≡◌, ◌⊎◌, ℕ, Bool, true, false, List, [], ◌∷◌, Option, IfSome, Result, Ok, codes, take, if◌then◌else◌}
+use Rattle.std.specs.Prelude.{◌≡◌, ◌⊎◌, ℕ, Bool, true, false, List, [], ◌∷◌, Option, IfSome, Result, Ok, Err, codes, take, if◌then◌else◌}
 use Rattle.std.specs.List.{list_any}
 use Rattle.std.specs.Io.BufRead.{ends_with_byte, strip_last, take_through}
 use Rattle.command_socket_words.specs.Commands.{commands_of}
 use Rattle.command_socket_words.specs.declared.command.Command.{Command}
 use Rattle.command_socket_words.specs.declared.command.Command.TheVariants.{Stop}
 use Rattle.command_socket_words.specs.declared.fault.CommandFault.{CommandFault}
+use Rattle.command_socket_words.specs.declared.fault.CommandFault.TheVariants.{UnknownCommand}
 use Rattle.lb_desk_ports.specs.Calls.{Grows}
 use Rattle.lb_desk_ports.specs.declared.refused.Refused.TheVariants.{Memory}
 use Rattle.command_socket_serve.specs.Answers.{Answers, looked_up, refused_line}
 use Rattle.command_socket_serve.specs.Consoles.{ConsoleView}
 use Rattle.command_socket_serve.specs.Desks.{DeskSeen}
 use Rattle.command_socket_serve.specs.Outcomes.{Outcome, both, no_outcome, only_text}
+use Rattle.command_socket_serve.specs.Requests.{is_request}
 use Rattle.command_socket_serve.specs.declared.connection.TheConstants.{MOST_READ}
 use Rattle.command_socket_serve.specs.declared.line.Next.{Next}
 use Rattle.command_socket_serve.specs.declared.line.Next.TheVariants as next
@@ -45,6 +47,10 @@ next_behind commands = if list_any is_stop commands then next.Stop else next.GoO
 
 -- ---- the line
 
+-- The commands of a line, and their faults. A line with which a request of HTTP begins is one fault, whatever stands in it
+abbrev pub asked_in : List ℕ → List (Result Command CommandFault)
+asked_in line = if is_request line then Err UnknownCommand ∷ [] else commands_of line
+
 -- there is not memory enough for the line's commands, of which none is carried out
 pub record LacksMemory {D : Type 0} (desks used : List D) (outcome : Outcome) (following : Next) : Type 0 where
   pub outcome_is : outcome ≡ ended (only_text (refused_line Memory))
@@ -54,8 +60,8 @@ pub record LacksMemory {D : Type 0} (desks used : List D) (outcome : Outcome) (f
 -- all commands of the line are answered
 pub record AnswersAll {D : Type 0} (seen : D → DeskSeen) (console : ConsoleView) (line : List ℕ) (desks used : List D) (outcome : Outcome)
     (following : Next) : Type 0 where
-  pub answered : AreAnswered seen console (commands_of line) desks used outcome
-  pub next_is : following ≡ next_behind (commands_of line)
+  pub answered : AreAnswered seen console (asked_in line) desks used outcome
+  pub next_is : following ≡ next_behind (asked_in line)
 
 abbrev pub AnswersLine : {D : Type 0} → (D → DeskSeen) → ConsoleView → List ℕ → List D → List D → Next → Outcome → Type 0
 AnswersLine seen console line desks used following outcome =

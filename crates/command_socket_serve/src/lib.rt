@@ -11,6 +11,7 @@ mod connection;
 mod console;
 mod line;
 mod printing;
+mod request;
 mod shows;
 mod told;
 

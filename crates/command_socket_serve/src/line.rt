@@ -1,19 +1,20 @@
-ghost use Rattle.std.specs.Prelude.{◌≡◌, length, Ok};
+ghost use Rattle.std.specs.Prelude.{◌≡◌, length, IfOk, Ok};
 ghost use Rattle.std.specs.List.{list_any};
 ghost use Rattle.command_socket_serve.specs.Answers.{looked_up};
 ghost use Rattle.command_socket_serve.specs.Desks.{desk_seen};
-ghost use Rattle.command_socket_serve.specs.Lines.{AnswersLine, AreAnswered, next_behind, is_stop};
+ghost use Rattle.command_socket_serve.specs.Lines.{AnswersLine, AreAnswered, asked_in, next_behind, is_stop};
 ghost use Rattle.command_socket_serve.specs.Outcomes.{Does};
 
 use crate::answers::answer;
 use crate::printing::{Printed, print_end, print_refused};
+use crate::request::is_request;
 use crate::{Console, Told};
 use command_socket::{Command, CommandFault, read_commands};
 use dual_cert_write::WriteFailed;
 use lb_desk_ports::{Gate, Refused};
 use lb_desk_steer::Steer;
 use lb_types_counted::Counted;
-use std::alloc::Global;
+use std::alloc::{AllocError, Global};
 use std::io::Write;
 
 /// Whether the program goes on after a line.
@@ -36,6 +37,9 @@ pub struct Answered {
 /// Carries out the commands of a line, one after another, and prints their answers: the text of each, and then an empty line. There
 /// is a desk for each backend of the configuration, in its order. The line is given without its end.
 ///
+/// A line with which a request of HTTP begins, as `GET /;stop; HTTP/1.1`, is answered as one `100 UnknownCommand`: else a URL could carry
+/// commands to a socket that is an address.
+///
 /// A change that is made has no text, and is reported to `told`; the text of a command at fault is its fault. A line has at most
 /// 2,048 commands. Where there is not enough memory for them, none is carried out and `out of memory` is the one answer. A command
 /// that runs out of memory has the same text. The commands after it are still carried out, and so are those after a failed write.
@@ -56,7 +60,7 @@ pub fn answer_line<R, S: Steer<R>, G: Gate<R>, T: Told, W: Write>(
         (T.told told.old) (T.told told.new) out.old (Ok tt) out.new result.printed }
     ensures seats { length desks.new ≡ length desks.old }
 {
-    let Ok(commands) = read_commands(alloc, line) else {
+    let Ok(commands) = read_line(alloc, line) else {
         let printed = print_refused(out, Ok(()), Refused::Memory);
         return Answered {
             next: Next::GoOn,
@@ -67,6 +71,18 @@ pub fn answer_line<R, S: Steer<R>, G: Gate<R>, T: Told, W: Write>(
         printed: answer_all(rt, alloc, console, desks, told, &commands, out),
         next: next_behind(&commands),
     }
+}
+
+/// The commands of a line, with its fault in the place of each that can't be read.
+fn read_line(alloc: Global, line: &[u8]) -> Result<Vec<Result<Command, CommandFault>>, AllocError>
+    ensures { IfOk result (λ commands. commands.items ≡ asked_in line.now) }
+{
+    if !is_request(line) {
+        return read_commands(alloc, line);
+    }
+    let mut commands = Vec::new(alloc);
+    commands.push(Err(CommandFault::UnknownCommand))?;
+    Ok(commands)
 }
 
 /// Whether the program goes on after these commands.
