@@ -63,7 +63,9 @@ pub fn copy_back<S: Wire, C: Wire>(server: &mut S, client: &mut C) -> Result<u64
     }
 }
 
-/// Copies what comes after the first bytes of a response, which were so many.
+/// Copies what comes after the first bytes of a response, which were so many. The room is in a frame of its own, whose pages are
+/// touched when it is entered: a response that ends within the first room costs none of this memory.
+#[inline(never)]
 fn copy_rest<S: Wire, C: Wire>(
     server: &mut S,
     client: &mut C,
