@@ -19,7 +19,9 @@ use http_relay_wire::Wire;
 
 /// Passes on a chunked body. In the usual case a chunk costs one read and one write. As much is read at once as must still come, so
 /// no byte after the body is read. What was judged goes out together before the next read. Nothing is waited for after a bad line, so
-/// a size line costs a walk over what has come of it at each read. Of a trailer each byte is looked at once.
+/// a size line costs a walk over what has come of it at each read. Of a trailer each byte is looked at once. The room is in a frame of
+/// its own, whose pages are touched when it is entered: a request without chunks costs none of this memory.
+#[inline(never)]
 pub(crate) fn pass_chunks<C: Wire, S: Wire>(
     at_hand: &mut AtHand<'_>,
     client: &mut C,

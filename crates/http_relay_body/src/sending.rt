@@ -1,5 +1,5 @@
 ghost use Rattle.std.specs.Prelude.{◌≡◌, ℕ, List, ◌++◌, IfSome};
-ghost use Rattle.http_relay_body.specs.Moves.{Moved, client_faults, server_faults};
+ghost use Rattle.http_relay_body.specs.Moves.{Moved, IsLong, client_faults, server_faults};
 ghost use Rattle.http_relay_body.specs.Bodies.{IsBody, JudgesInput};
 
 use crate::at_hand::AtHand;
@@ -51,7 +51,26 @@ fn send_through<C: Wire, S: Wire>(
 {
     match kind {
         BodyKind::Empty => Ok(()),
-        BodyKind::Length(count) => pass(at_hand, client, server, &mut [0; ROOM], count),
+        BodyKind::Length(count) => send_counted(count, at_hand, client, server),
         BodyKind::Chunked => pass_chunks(at_hand, client, server),
     }
+}
+
+/// Sends a body of so many bytes. The room is in a frame of its own, since the pages of a frame are touched when it is entered: a
+/// request without such a body costs none of this memory.
+#[inline(never)]
+fn send_counted<C: Wire, S: Wire>(
+    count: u64,
+    at_hand: &mut AtHand<'_>,
+    client: &mut C,
+    server: &mut S,
+) -> Result<(), BodyFault>
+    ensures moved { Moved (IsLong count) at_hand.old at_hand.new (C.reading client.old) (C.reading client.new)
+        (S.written server.old) (S.written server.new) result }
+    ensures client { C.faults client.new ≡ client_faults result (C.faults client.old) }
+    ensures server { S.faults server.new ≡ server_faults result (S.faults server.old) }
+    ensures client_written { C.written client.new ≡ C.written client.old }
+    ensures server_reading { S.reading server.new ≡ S.reading server.old }
+{
+    pass(at_hand, client, server, &mut [0; ROOM], count)
 }
