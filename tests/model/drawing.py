@@ -1,6 +1,7 @@
 """Farms and scripts that are drawn by a seed, and plans that are no planner's."""
 from __future__ import annotations
 
+from collections import Counter
 from dataclasses import replace
 from typing import Iterator, Optional, Sequence, TypeVar
 
@@ -105,14 +106,16 @@ class Script:
         elif kind < 98:
             yield from ["plan", *LOOK]
         else:
-            yield f"show {one_of(self.dice, ['table', 'journal', 'plan'])} {'shop' if is_one_in(self.dice, 20) else 'web'}"
+            backend = "shop" if is_one_in(self.dice, 20) else "web"
+            yield f"show {one_of(self.dice, ['table', 'journal', 'plan'])} {backend}"
 
     def serve(self) -> str:
         self.moment += 10 * self.dice.roll(4)
         key = "-" if is_one_in(self.dice, 12) else one_of(self.dice, self.keys)
         rules = [self.name() for _ in range(max(0, self.dice.roll(16) - 12))]
         cost = 1 + self.dice.roll(self.costs)
-        return " ".join(["serve", str(self.some_moment()), key, *rules, *([f"cost={cost}"] if cost != 1 else [])])
+        words = ["serve", str(self.some_moment()), key, *rules]
+        return " ".join(words if cost == 1 else [*words, f"cost={cost}"])
 
     def name(self) -> str:
         return one_of(self.dice, self.names)
@@ -141,7 +144,9 @@ class Script:
         if number == 7:
             weight = self.number(4, 257) or self.dice.roll(3)
             return one_of(dice, [f"set weight {at} {weight}", f"set server {at} weight {weight}"])
-        return f"set maxconn server {at} {self.number(3, 4294967296)}" if number == 8 else f"set maxpins server {at} {self.number(9, 16777217)}"
+        if number == 8:
+            return f"set maxconn server {at} {self.number(3, 4294967296)}"
+        return f"set maxpins server {at} {self.number(9, 16777217)}"
 
     def state(self, at: str, state: str) -> str:
         words = {"ready": f"enable server {at}", "maint": f"disable server {at}"}
@@ -155,8 +160,8 @@ class Script:
 
 
 def with_plans(dice: Dice, script: Sequence[str], made: dict[int, Plan]) -> list[str]:
-    """The script once more, with texts of plans in it: where a line of it had a plan made and installed, as those of this number had,
-    that plan, changed ones, and one from before."""
+    """The script once more, with texts of plans in it. Where a line of it had a plan made and installed, changed ones come before that plan,
+    and perhaps one from before. `made` has these plans by the lines' numbers."""
     lines: list[str] = []
     older: Optional[Plan] = None
     for number, line in enumerate(script):
@@ -164,10 +169,12 @@ def with_plans(dice: Dice, script: Sequence[str], made: dict[int, Plan]) -> list
         if plan is None:
             lines.append(line)
             continue
-        for given in [changed(dice, plan) for _ in range(dice.roll(3))] + ([older] if older and is_one_in(dice, 3) else []):
-            lines += [*given.lines(), "show table web"]
-        # What follows on the line looks at the table too.
-        lines += [line] if is_one_in(dice, 3) else plan.lines() + ["show table web"]
+        given = [changed(dice, plan) for _ in range(dice.roll(3))]
+        if older is not None and is_one_in(dice, 3):
+            given.append(older)
+        for text in map(Plan.lines, given):
+            lines += [*text, "show table web"]
+        lines += [line] if is_one_in(dice, 3) else [*plan.lines(), "show table web"]
         older = plan
     return lines
 
@@ -188,17 +195,17 @@ def changed(dice: Dice, plan: Plan) -> Plan:
         return plan
     row = one_of(dice, rows)
     if way == 3:
-        return replace(plan, rows=plan.rows + type(plan.rows)({row: 1}))
+        return replace(plan, rows=plan.rows + Counter({row: 1}))
     if way == 4:
-        return replace(plan, rows=plan.rows - type(plan.rows)({row: 1}))
+        return replace(plan, rows=plan.rows - Counter({row: 1}))
     return replace(plan, rows=elsewhere(dice, plan, row))
 
 
-def elsewhere(dice: Dice, plan: Plan, row: tuple[Kind, Place]):
+def elsewhere(dice: Dice, plan: Plan, row: tuple[Kind, Place]) -> Counter[tuple[Kind, Place]]:
     """The rows, where one pin of this row goes to another place."""
     kind, _ = row
     new = one_of(dice, [None, *kind[1], *(name for name, _ in plan.servers)])
-    return plan.rows - type(plan.rows)({row: 1}) + type(plan.rows)({(kind, new): 1})
+    return plan.rows - Counter({row: 1}) + Counter({(kind, new): 1})
 
 
 def put(things: Sequence[Thing], at: int, thing: Thing) -> list[Thing]:

@@ -60,8 +60,15 @@ class Plan:
         return number.get(place, 0), as_bits, cost, number.get(new, 0)
 
 
-def plan_in(lines: Iterable[str]) -> Plan:
-    """The plan of a text that is one. Another text is a ValueError, or no plan whose text it is."""
+def plan_in(lines: Iterable[str]) -> Optional[Plan]:
+    """The plan of a text that is one. Of another text None, or a plan that has another text."""
+    try:
+        return plan_of(lines)
+    except ValueError:
+        return None
+
+
+def plan_of(lines: Iterable[str]) -> Plan:
     version, servers, prices, rows = 0, [], [], Counter()
     for line in lines:
         match line.split(" "):
@@ -108,7 +115,7 @@ def spent(plan: Plan) -> int:
 
 
 def bound(plan: Plan) -> int:
-    """What no lawful plan is below: each pin takes its cheapest option, whose place costs its price, less what all places are worth."""
+    """What no lawful plan is below: each pin takes its cheapest option, whose place costs its price; less what all places are worth."""
     price = dict(zip((name for name, _ in plan.servers), plan.prices))
     least = 0
     for (kind, _), count in plan.rows.items():

@@ -56,7 +56,9 @@ class Replay:
         for line in lines:
             if line.startswith("stickyplan "):
                 text = [line, *until_end(lines)]
-                answer = Answer(line, [self.install(plan_in(text))])
+                plan = plan_in(text)
+                assert plan is not None, "a script has texts of plans alone"
+                answer = Answer(line, [self.install(plan)])
             else:
                 answer = Answer(line, self.answered(line))
             self.at += len(answer.lines)
@@ -97,8 +99,9 @@ class Replay:
         key = None if word == "-" else word[: self.key_length()]
         rules = [name for name in words if not name.startswith("cost=")]
         cost = next((int(name.removeprefix("cost=")) for name in words if name.startswith("cost=")), 1)
-        event = ["serve", str(moment), "-" if key is None else spelt(key), *rules, *([f"cost={cost}"] if cost != 1 else [])]
-        return self.noted(" ".join(event), lambda: self.desk.serve(moment, key, rules, cost))
+        event = " ".join(["serve", str(moment), "-" if key is None else spelt(key), *rules])
+        event = event if cost == 1 else f"{event} cost={cost}"
+        return self.noted(event, lambda: self.desk.serve(moment, key, rules, cost))
 
     def key_length(self) -> int:
         if self.farm.table is None or self.farm.table.length is None:
@@ -118,8 +121,8 @@ class Replay:
             return self.installed(Plan(version, [], [], {}), [])
         text = list(until_end(iter(self.written[self.at + 1 :])))
         plan = plan_in(text)
-        if plan.version != version or plan.lines() != text:
-            return f"a plan for version {version}, with the text {plan.lines()}"
+        if plan is None or plan.version != version or plan.lines() != text:
+            return f"installed a plan for version {version}, which is shown next"
         return self.installed(plan, [] if self.farm.table is None else self.shown_places(1 + len(text)))
 
     def installed(self, plan: Plan, places: Sequence[Place]) -> str:

@@ -19,12 +19,13 @@ from running.dice import Dice
 LIMIT = 120
 # What there is to see of a farm without servers.
 NO_BACKEND = b"replay needs one backend\n"
-# The kinds of replies that come in a long run. An event is refused in no other way in a script: a line with an unknown name is bad.
+# The kinds of replies that come in a long run. In a script no event is refused in another way.
 KINDS = [
-    "served kept", "served moved", "served made", "served loose", "80 NoServer", "opened", "30 Full", "31 NotServing", "closed",
-    "32 NotOpen", "expired none", "expired some", "check stays", "check up", "check down", "check ignored", "12 NotChecked", "done",
-    "11 OutOfRange", "sheet", "installed, none moved", "installed, some moved", "70 Stale", "71 Bad 50 RowsDiffer",
-    "71 Bad 51 NotPermitted", "71 Bad 52 OverCapacity", "71 Bad 53 NotShown",
+    "served kept", "served moved", "served made", "served loose", "80 NoServer",
+    "opened", "30 Full", "31 NotServing", "closed", "32 NotOpen", "expired none", "expired some",
+    "check stays", "check up", "check down", "check ignored", "12 NotChecked", "done", "11 OutOfRange",
+    "sheet", "installed, none moved", "installed, some moved", "70 Stale",
+    "71 Bad 50 RowsDiffer", "71 Bad 51 NotPermitted", "71 Bad 52 OverCapacity", "71 Bad 53 NotShown",
 ]
 
 
@@ -53,12 +54,15 @@ class Trial:
     def run(self, configuration: Path, script: Sequence[str]) -> subprocess.CompletedProcess:
         text = "".join(f"{line}\n" for line in script).encode()
         words = [str(self.program), "replay", str(configuration), "/dev/stdin"]
-        return subprocess.run(words, input=text, capture_output=True, timeout=LIMIT)
+        try:
+            return subprocess.run(words, input=text, capture_output=True, timeout=LIMIT)
+        except subprocess.TimeoutExpired as late:
+            return subprocess.CompletedProcess(words, -1, late.stdout or b"", f"after {LIMIT} s it had not ended".encode())
 
     def compared(self, seed: int, farm: Farm, script: Sequence[str], configuration: Path) -> Tried:
         """Hands the script to both. The comparison ends at the first line whose answers differ."""
         ran = self.run(configuration, script)
-        written = ran.stdout.decode().splitlines()
+        written = ran.stdout.decode(errors="backslashreplace").split("\n")[:-1]
         replay = Replay(farm, written, new_desk=self.new_desk)
         made: dict[int, Plan] = {}
         for number, answer in enumerate(replay.answers(script)):
