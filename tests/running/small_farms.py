@@ -11,6 +11,7 @@ from dataclasses import dataclass
 from itertools import product
 from typing import Iterator, Optional, Sequence
 
+from running.dice import Dice
 from running.trying import Case, Step
 
 NAMES = "-abc"
@@ -21,18 +22,6 @@ SEED = 20261122
 Spot = int
 Prices = Sequence[int]
 Assignment = Sequence[Spot]
-
-
-class Dice:
-    """Numbers that look random and are the same in each run."""
-
-    def __init__(self, state: int) -> None:
-        self.state = state
-
-    def roll(self, sides: int) -> int:
-        """Returns a number below `sides`."""
-        self.state = (self.state * 6364136223846793005 + 1442695040888963407) % 2**64
-        return (self.state >> 33) % sides
 
 
 @dataclass(frozen=True)
