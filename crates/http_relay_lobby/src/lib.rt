@@ -11,15 +11,18 @@
 #![tactic(auto)]
 
 mod arrival;
+mod ceiling;
 mod gathering;
 mod guest;
 mod guests;
+mod lanes;
 mod line;
 mod lobby;
 mod refusing;
 mod search;
 
-pub use arrival::{Arrival, MAX_WAITING, waiting_line};
+pub use arrival::Arrival;
 pub use gathering::gather_until_stopped;
+pub use lanes::{Lane, MAX_WAITING, WaitingLine, waiting_line};
 pub use lobby::{MOST_GUESTS, Rules};
 pub use search::Search;
