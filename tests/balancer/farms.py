@@ -186,12 +186,14 @@ class Farm:
         origin.open()
         return origin
 
-    def spawn(self, text: str, out: Path, err: Path) -> subprocess.Popen[bytes]:
-        """Starts the program under this configuration. It is killed with the farm, if it still runs."""
+    def spawn(self, text: str, out: Path, err: Path, most_files: int | None = None) -> subprocess.Popen[bytes]:
+        """Starts the program under this configuration, with so many open files at most. It is killed with the farm, if it still runs."""
         self.balancers += 1
         config = self.folder / f"{self.balancers}.cfg"
         config.write_text(text)
         words = [str(self.program), "run", "-f", str(config)]
+        if most_files is not None:
+            words = ["sh", "-c", f'ulimit -n {most_files} && exec "$@"', "sh", *words]
         with out.open("wb") as to_out, err.open("wb") as to_err, TURN:
             expect("the tests go on", not ENDING.is_set())
             process = subprocess.Popen(words, stdin=subprocess.DEVNULL, stdout=to_out, stderr=to_err)
@@ -199,19 +201,19 @@ class Farm:
             self.stack.callback(process.kill)
         return process
 
-    def launch(self, sections: str, settings: tuple[str, ...] = (), operators: bool = True) -> Balancer:
+    def launch(self, sections: str, settings: tuple[str, ...] = (), operators: bool = True, most_files: int | None = None) -> Balancer:
         """Starts a balancer, and doesn't wait for it. With `operators` it has a command socket in the test's folder."""
         lines = list(settings)
         if operators:
             place = self.operators if isinstance(self.operators, Path) else f"ipv4@{self.operators[0]}:{self.operators[1]}"
             lines.insert(0, f"stats socket {place}")
         out, err = (self.folder / f"{self.balancers}.{word}" for word in ("out", "err"))
-        process = self.spawn(section("global", *lines) + sections, out, err)
+        process = self.spawn(section("global", *lines) + sections, out, err, most_files)
         return Balancer(process, out, err, self.operators)
 
-    def start(self, sections: str, settings: tuple[str, ...] = (), operators: bool = True) -> Balancer:
+    def start(self, sections: str, settings: tuple[str, ...] = (), operators: bool = True, most_files: int | None = None) -> Balancer:
         """Starts a balancer, and waits until it listens."""
-        balancer = self.launch(sections, settings, operators)
+        balancer = self.launch(sections, settings, operators, most_files)
         balancer.wait_listening(sections.count("\n  bind "))
         return balancer
 

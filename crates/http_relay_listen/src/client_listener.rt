@@ -16,6 +16,14 @@ impl ClientListener {
     pub(crate) fn new(socket: TcpListener) -> Self {
         ClientListener { socket }
     }
+
+    /// The descriptor that the system gives next: all lower ones are open. If there is none, it is as high as can be.
+    pub fn next_descriptor(&self) -> usize {
+        match self.socket.try_clone() {
+            Ok(same) => usize::try_from(same.as_raw_fd()).unwrap_or(usize::MAX),
+            Err(_) => usize::MAX,
+        }
+    }
 }
 
 impl OpenListener for ClientListener {

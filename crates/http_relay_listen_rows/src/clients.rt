@@ -1,6 +1,8 @@
-use crate::site::{LONG, NONE, any_port, connect_all, patience, rules, take_all};
+use crate::site::{
+    LONG, NO_OTHERS, NONE, any_port, connect_all, line, next, patience, rules, take_all,
+};
 use http_relay_listen::listen_within;
-use http_relay_lobby::{Arrival, Rules, gather_until_stopped, waiting_line};
+use http_relay_lobby::{Arrival, Rules, gather_until_stopped};
 use http_relay_socket::StreamLimits;
 use std::io::{ErrorKind, Read, Write};
 use std::net::{Ipv4Addr, OpenListener, TcpStream};
@@ -46,11 +48,12 @@ fn connections_have_their_limits(rt: HostRuntime) -> Result<(), Fail> {
         };
         let listener = listen_within(&rt, any_port(), limits)?;
         let address = listener.local_addr()?;
-        let (to, from) = waiting_line(rt.alloc())?;
+        let (to, from) = line(&rt)?;
         let rules = Rules {
             frontend: 3,
             silence: *read,
             most_guests: 8,
+            files: NO_OTHERS,
         };
         let stop = AtomicBool::new(false);
         let mut client = TcpStream::connect(&rt, address)?;
@@ -59,13 +62,13 @@ fn connections_have_their_limits(rt: HostRuntime) -> Result<(), Fail> {
             &rt,
             || gather_until_stopped(&rt, rt.alloc(), listener, rules, &stop, to),
             || {
-                let arrival = from.recv_timeout(&rt, patience());
+                let arrival = next(&rt, &from);
                 stop.store(true, Ordering::SeqCst);
                 arrival
             },
         );
         gathered?;
-        let arrival = arrival?;
+        let arrival = arrival.ok_or(ErrorKind::TimedOut)?;
         let stream = &arrival.stream;
         assert!(rt;
             is_limit(*read, stream.read_timeout()?)
@@ -104,7 +107,7 @@ fn accepted_connections_do_not_block(rt: HostRuntime) -> Result<(), Fail> {
 fn a_stop_ends_the_listener_and_the_line(rt: HostRuntime) -> Result<(), Fail> {
     let listener = listen_within(&rt, any_port(), LONG)?;
     let address = listener.local_addr()?;
-    let (to, from) = waiting_line(rt.alloc())?;
+    let (to, from) = line(&rt)?;
     let stop = AtomicBool::new(false);
     let begun = Instant::now(&rt)?;
     let (gathered, _) = join(
@@ -114,7 +117,7 @@ fn a_stop_ends_the_listener_and_the_line(rt: HostRuntime) -> Result<(), Fail> {
     );
     gathered?;
     let taken = begun.elapsed(&rt)?;
-    let line_ends = from.recv_timeout(&rt, patience()).is_err();
+    let line_ends = next(&rt, &from).is_none();
     let is_refused = TcpStream::connect(&rt, address).is_err();
     assert!(rt;
         taken < Duration::from_millis(2000) && line_ends && is_refused,
@@ -128,7 +131,7 @@ fn a_stop_ends_the_listener_and_the_line(rt: HostRuntime) -> Result<(), Fail> {
 fn two_hundred_clients_are_handed_on(rt: HostRuntime) -> Result<(), Fail> {
     let listener = listen_within(&rt, any_port(), LONG)?;
     let clients = connect_all(&rt, listener.local_addr()?, 200, REQUEST)?;
-    let (to, from) = waiting_line(rt.alloc())?;
+    let (to, from) = line(&rt)?;
     let stop = AtomicBool::new(false);
     let (gathered, taken) = join(
         &rt,

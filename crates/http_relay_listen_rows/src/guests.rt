@@ -1,7 +1,6 @@
-use crate::site::{LONG, NONE, any_port, patience, rules};
-use crossbeam_channel::Receiver;
+use crate::site::{LONG, NONE, any_port, line, next, patience, rules};
 use http_relay_listen::{ClientListener, listen_within};
-use http_relay_lobby::{Arrival, gather_until_stopped, waiting_line};
+use http_relay_lobby::{WaitingLine, gather_until_stopped};
 use http_relay_socket::StreamLimits;
 use http_relay_wire::WireFault;
 use std::io::{Read, Write};
@@ -27,13 +26,13 @@ const SHORT: StreamLimits = StreamLimits {
 // What arrives next: the bytes that were read, whether reading failed, and the stream.
 fn is_next<R: Wait + Clock>(
     rt: &R,
-    from: &Receiver<Arrival<TcpStream>>,
+    from: &WaitingLine<TcpStream>,
     head: &[u8],
     failed: Option<WireFault>,
 ) -> bool {
-    match from.recv_timeout(rt, patience()) {
-        Ok(arrival) => arrival.head.as_slice() == head && arrival.failed == failed,
-        Err(_) => false,
+    match next(rt, from) {
+        Some(arrival) => arrival.head.as_slice() == head && arrival.failed == failed,
+        None => false,
     }
 }
 
@@ -42,7 +41,7 @@ fn is_next<R: Wait + Clock>(
 fn come_in_turn<R: Wait + Clock + Net<Stream = TcpStream>>(
     rt: &R,
     address: SocketAddr,
-    from: &Receiver<Arrival<TcpStream>>,
+    from: &WaitingLine<TcpStream>,
 ) -> io::Result<bool> {
     let mut slow = TcpStream::connect(rt, address)?;
     slow.set_nodelay(true)?;
@@ -70,7 +69,7 @@ fn come_in_turn<R: Wait + Clock + Net<Stream = TcpStream>>(
 fn a_slow_head_hinders_no_other(rt: HostRuntime) -> Result<(), Fail> {
     let listener = listen_within(&rt, any_port(), LONG)?;
     let address = listener.local_addr()?;
-    let (to, from) = waiting_line(rt.alloc())?;
+    let (to, from) = line(&rt)?;
     let stop = AtomicBool::new(false);
     let (gathered, came) = join(
         &rt,
@@ -91,7 +90,7 @@ fn a_slow_head_hinders_no_other(rt: HostRuntime) -> Result<(), Fail> {
 fn are_dismissed<R: Wait + Clock + Net<Stream = TcpStream>>(
     rt: &R,
     address: SocketAddr,
-    from: &Receiver<Arrival<TcpStream>>,
+    from: &WaitingLine<TcpStream>,
 ) -> io::Result<(u128, u128, bool)> {
     let begun = Instant::now(rt)?;
     let mut lively = TcpStream::connect(rt, address)?;
@@ -113,7 +112,7 @@ fn are_dismissed<R: Wait + Clock + Net<Stream = TcpStream>>(
 fn a_silent_client_is_dismissed(rt: HostRuntime) -> Result<(), Fail> {
     let listener = listen_within(&rt, any_port(), SHORT)?;
     let address = listener.local_addr()?;
-    let (to, from) = waiting_line(rt.alloc())?;
+    let (to, from) = line(&rt)?;
     let stop = AtomicBool::new(false);
     let (gathered, times) = join(
         &rt,
@@ -137,7 +136,7 @@ fn a_silent_client_is_dismissed(rt: HostRuntime) -> Result<(), Fail> {
 fn oldest_goes<R: Wait + Clock + Net<Stream = TcpStream>>(
     rt: &R,
     address: SocketAddr,
-    from: &Receiver<Arrival<TcpStream>>,
+    from: &WaitingLine<TcpStream>,
     stop: &AtomicBool,
 ) -> io::Result<bool> {
     let pause = Duration::from_millis(50);
@@ -164,7 +163,7 @@ fn oldest_goes<R: Wait + Clock + Net<Stream = TcpStream>>(
 fn the_oldest_leaves_a_full_lobby(rt: HostRuntime) -> Result<(), Fail> {
     let listener = listen_within(&rt, any_port(), NONE)?;
     let address = listener.local_addr()?;
-    let (to, from) = waiting_line(rt.alloc())?;
+    let (to, from) = line(&rt)?;
     let stop = AtomicBool::new(false);
     let (gathered, went) = join(
         &rt,
@@ -172,7 +171,7 @@ fn the_oldest_leaves_a_full_lobby(rt: HostRuntime) -> Result<(), Fail> {
         || oldest_goes(&rt, address, &from, &stop),
     );
     gathered?;
-    assert!(rt; went? && from.recv_timeout(&rt, patience()).is_err());
+    assert!(rt; went? && next(&rt, &from).is_none());
     Ok(())
 }
 
@@ -181,7 +180,7 @@ fn the_oldest_leaves_a_full_lobby(rt: HostRuntime) -> Result<(), Fail> {
 fn stopped_within<R: Wait + Clock + Net<Stream = TcpStream>>(
     rt: &R,
     address: SocketAddr,
-    from: &Receiver<Arrival<TcpStream>>,
+    from: &WaitingLine<TcpStream>,
     stop: &AtomicBool,
 ) -> io::Result<(bool, bool, bool)> {
     let mut client = TcpStream::connect(rt, address)?;
@@ -203,7 +202,7 @@ fn a_stop_leaves_guests_their_limit(rt: HostRuntime) -> Result<(), Fail> {
     for (limits, wanted) in [(SHORT, (true, true, true)), (NONE, (false, true, true))] {
         let listener = listen_within(&rt, any_port(), limits)?;
         let address = listener.local_addr()?;
-        let (to, from) = waiting_line(rt.alloc())?;
+        let (to, from) = line(&rt)?;
         let stop = AtomicBool::new(false);
         let (gathered, ends) = join(
             &rt,
@@ -251,7 +250,7 @@ fn a_stop_lets_newcomers_go(rt: HostRuntime) -> Result<(), Fail> {
         let inner = listen_within(&rt, any_port(), limits)?;
         let mut client = TcpStream::connect(&rt, inner.local_addr()?)?;
         client.set_read_timeout(Some(patience()))?;
-        let (to, from) = waiting_line(rt.alloc())?;
+        let (to, from) = line(&rt)?;
         let stop = AtomicBool::new(false);
         let listener = LastCall { inner, stop: &stop };
         gather_until_stopped(&rt, rt.alloc(), listener, rules(limits, 8), &stop, to)?;
@@ -259,5 +258,51 @@ fn a_stop_lets_newcomers_go(rt: HostRuntime) -> Result<(), Fail> {
         let is_closed = matches!(client.read(&mut [0; 8]), Ok(0));
         assert!(rt; told == is_told && is_closed, "{limits:?}");
     }
+    Ok(())
+}
+
+// What a client gets that sends a byte each 100 ms and whose limit is 300 ms: milliseconds from the stop until it was reported as timed
+// out, if it was.
+fn drips_until_dismissed<R: Wait + Clock + Net<Stream = TcpStream>>(
+    rt: &R,
+    address: SocketAddr,
+    from: &WaitingLine<TcpStream>,
+    stop: &AtomicBool,
+) -> io::Result<Option<u128>> {
+    let mut client = TcpStream::connect(rt, address)?;
+    client.set_nodelay(true)?;
+    client.write_all(b"GET /")?;
+    let mut begun = Instant::now(rt)?;
+    for count in 0..30 {
+        if count == 5 {
+            begun = Instant::now(rt)?;
+            stop.store(true, Ordering::SeqCst);
+        }
+        thread::sleep(rt, Duration::from_millis(100));
+        client.write_all(b"x")?;
+        if !from.is_empty() {
+            break;
+        }
+    }
+    let passed = begun.elapsed(rt)?.as_millis();
+    let failed = next(rt, from).and_then(|arrival| arrival.failed);
+    Ok((failed == Some(WireFault::Timeout)).then_some(passed))
+}
+
+// Before a stop each byte begins the limit anew. From the stop on a client has its limit once, whatever it sends.
+#[test]
+fn a_stop_waits_for_no_client_that_drips(rt: HostRuntime) -> Result<(), Fail> {
+    let listener = listen_within(&rt, any_port(), SHORT)?;
+    let address = listener.local_addr()?;
+    let (to, from) = line(&rt)?;
+    let stop = AtomicBool::new(false);
+    let (gathered, passed) = join(
+        &rt,
+        || gather_until_stopped(&rt, rt.alloc(), listener, rules(SHORT, 8), &stop, to),
+        || drips_until_dismissed(&rt, address, &from, &stop),
+    );
+    gathered?;
+    let passed = passed?.unwrap_or(0);
+    assert!(rt; passed >= 299 && passed < 1000, "{passed}");
     Ok(())
 }

@@ -1,7 +1,6 @@
-use crate::site::{NONE, any_port, rules, take_all};
-use crossbeam_channel::Receiver;
+use crate::site::{NONE, any_port, line, next, rules, take_all};
 use http_relay_listen::listen;
-use http_relay_lobby::{Arrival, MAX_WAITING, gather_until_stopped, waiting_line};
+use http_relay_lobby::{MAX_WAITING, WaitingLine, gather_until_stopped, waiting_line};
 use std::cell::Cell;
 use std::io::{Error, ErrorKind, Read, Write};
 use std::net::{Ipv4Addr, OpenListener, OpenStream, SocketAddr, SocketAddrV4, TcpListener};
@@ -99,6 +98,9 @@ fn connection() -> (Scripted, SocketAddr) {
 // `EMFILE`: too many open files.
 const TOO_MANY_FILES: i32 = 24;
 
+// `EPROTO`: an error of the connection that would have been accepted.
+const ODD_CONNECTION: i32 = 71;
+
 // What accepts give, and how many connections are handed on.
 const ACCEPTS: &[(&[Accept], usize)] = &[
     (&[], 0),
@@ -118,6 +120,7 @@ const ACCEPTS: &[(&[Accept], usize)] = &[
         ],
         1,
     ),
+    (&[Accept::FailsAs(ODD_CONNECTION), Accept::Connection], 1),
     (&[Accept::Fails(ErrorKind::Other), Accept::Connection], 1),
 ];
 
@@ -126,7 +129,7 @@ const ACCEPTS: &[(&[Accept], usize)] = &[
 fn errors_end_nothing(rt: HostRuntime) -> Result<(), Fail> {
     for (accepts, handed_on) in ACCEPTS {
         let stop = AtomicBool::new(false);
-        let (to, from) = waiting_line(rt.alloc())?;
+        let (to, from) = line(&rt)?;
         let listener = ScriptedListener {
             inner: listen(&rt, any_port())?,
             accepts,
@@ -165,7 +168,7 @@ impl OpenListener for Crowd {
 }
 
 // Waits until the line is full, for 5 s at most, and then a while longer.
-fn wait_until_full<R: Clock>(rt: &R, line: &Receiver<Arrival<Scripted>>) {
+fn wait_until_full<R: Clock>(rt: &R, line: &WaitingLine<Scripted>) {
     for _ in 0..100 {
         if line.len() >= MAX_WAITING {
             break;
@@ -180,7 +183,7 @@ fn wait_until_full<R: Clock>(rt: &R, line: &Receiver<Arrival<Scripted>>) {
 #[test]
 fn a_full_line_holds_nobody_up(rt: HostRuntime) -> Result<(), Fail> {
     let stop = AtomicBool::new(false);
-    let (to, from) = waiting_line(rt.alloc())?;
+    let (to, from) = line(&rt)?;
     let crowd = Crowd {
         inner: listen(&rt, any_port())?,
     };
@@ -205,12 +208,42 @@ fn a_full_line_holds_nobody_up(rt: HostRuntime) -> Result<(), Fail> {
 #[test]
 fn without_workers_it_ends(rt: HostRuntime) -> Result<(), Fail> {
     let stop = AtomicBool::new(false);
-    let (to, from) = waiting_line(rt.alloc())?;
+    let (to, from) = line(&rt)?;
     drop(from);
     let crowd = Crowd {
         inner: listen(&rt, any_port())?,
     };
     gather_until_stopped(&rt, rt.alloc(), crowd, rules(NONE, 8), &stop, to)?;
     assert!(rt; !stop.load(Ordering::SeqCst));
+    Ok(())
+}
+
+// Each of two listeners has half of the line. Connections are taken from both in turn, however many one of them has.
+#[test]
+fn workers_take_from_listeners_in_turn(rt: HostRuntime) -> Result<(), Fail> {
+    let (lanes, from) = waiting_line(rt.alloc(), 2)?;
+    let (busy, quiet) = (AtomicBool::new(false), AtomicBool::new(false));
+    let accepts = [Accept::Connection; MAX_WAITING];
+    for (frontend, (lane, stop)) in lanes.into_iter().zip([&busy, &quiet]).enumerate() {
+        let listener = ScriptedListener {
+            inner: listen(&rt, any_port())?,
+            accepts: if frontend == 0 {
+                &accepts[..MAX_WAITING / 2]
+            } else {
+                &accepts[..3]
+            },
+            next: Cell::new(0),
+            stop,
+        };
+        let mut rules = rules(NONE, 8);
+        rules.frontend = frontend;
+        gather_until_stopped(&rt, rt.alloc(), listener, rules, stop, lane)?;
+    }
+    let mut places = [0; 8];
+    for place in &mut places {
+        *place = next(&rt, &from).map_or(2, |arrival| arrival.frontend);
+    }
+    places[..6].sort_unstable();
+    assert!(rt; places == [0, 0, 0, 1, 1, 1, 0, 0], "{places:?}");
     Ok(())
 }

@@ -1,6 +1,7 @@
-use crossbeam_channel::Receiver;
-use http_relay_lobby::{Arrival, Rules};
+use http_relay_listen::OtherFiles;
+use http_relay_lobby::{Arrival, Lane, Rules, WaitingLine, waiting_line};
 use http_relay_socket::StreamLimits;
+use std::alloc::AllocError;
 use std::io::Write;
 use std::net::{Ipv4Addr, SocketAddr, SocketAddrV4, TcpStream};
 use std::sync::Wait;
@@ -25,7 +26,28 @@ pub(crate) fn rules(limits: StreamLimits, most_guests: usize) -> Rules {
         frontend: 0,
         silence: limits.read,
         most_guests,
+        files: NO_OTHERS,
     }
+}
+
+/// No files beside those of clients.
+pub(crate) const NO_OTHERS: OtherFiles = OtherFiles {
+    own: 0,
+    dials: 0,
+    others: 0,
+};
+
+/// The line of one listener: its lane, and the end for workers.
+pub(crate) fn line<S: Drop>(rt: &HostRuntime) -> Result<(Lane<S>, WaitingLine<S>), Fail> {
+    let (mut lanes, line) = waiting_line(rt.alloc(), 1)?;
+    let lane = lanes.pop().ok_or(AllocError)?;
+    Ok((lane, line))
+}
+
+/// The next connection in the line, if one comes within 5 s.
+pub(crate) fn next<R: Wait + Clock, S: Drop>(rt: &R, from: &WaitingLine<S>) -> Option<Arrival<S>> {
+    from.words().recv_timeout(rt, patience()).ok()?;
+    from.take(rt)
 }
 
 /// A port of this host that the system picks.
@@ -57,12 +79,12 @@ pub(crate) fn connect_all(
 /// How many arrivals come, up to so many.
 pub(crate) fn take_all<R: Wait + Clock, S: Drop>(
     rt: &R,
-    from: &Receiver<Arrival<S>>,
+    from: &WaitingLine<S>,
     most: usize,
 ) -> usize {
     let mut count: usize = 0;
     for _ in 0..most {
-        if from.recv_timeout(rt, patience()).is_err() {
+        if next(rt, from).is_none() {
             break;
         }
         count = count.saturating_add(1);

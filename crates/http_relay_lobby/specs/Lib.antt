@@ -1,2 +1,3 @@
 pub mod HeadEnds
+pub mod Reads
 pub mod Sources

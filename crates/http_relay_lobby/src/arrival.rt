@@ -1,14 +1,10 @@
 ghost use Rattle.std.specs.Prelude.{◌≡◌, ◌≤◌, ◌++◌, vec_len, OnOk};
 ghost use Rattle.http_relay_head.specs.declared.scanning.TheConstants.{HEAD_ROOM};
 
-use crossbeam_channel::{Receiver, Sender, bounded};
 use http_relay_head::HEAD_ROOM;
 use http_relay_wire::WireFault;
 use std::alloc::{AllocError, Global};
 use std::net::{Ipv4Addr, SocketAddr};
-
-/// How many connections wait for a worker at most.
-pub const MAX_WAITING: usize = 1024;
 
 /// The least room that is taken for what a client has sent, in bytes.
 const LEAST_ROOM: usize = 64;
@@ -111,12 +107,4 @@ fn add(head: &mut Vec<u8>, bytes: &[u8]) -> Result<(), AllocError>
         head.reserve(room.unwrap_or(LEAST_ROOM).max(LEAST_ROOM))?;
     }
     head.extend_from_slice(bytes)
-}
-
-/// The line in which at most 1024 connections wait for workers, which take them from its end in their order. All listeners of a
-/// balancer hand on to one line. It takes all its memory here; the only error is out of memory.
-pub fn waiting_line<S: Drop>(
-    alloc: Global,
-) -> Result<(Sender<Arrival<S>>, Receiver<Arrival<S>>), AllocError> {
-    bounded(alloc, MAX_WAITING)
 }

@@ -1,6 +1,5 @@
 use crate::lobby::{LISTENER, Lobby, Next, Rules};
-use crate::{Arrival, MAX_WAITING};
-use crossbeam_channel::Sender;
+use crate::{Lane, MAX_WAITING};
 use http_relay_head::HEAD_ROOM;
 use mio::unix::SourceFd;
 use mio::{Events, Interest, Poll, Token};
@@ -44,21 +43,25 @@ struct Watch {
 /// it costs this thread two system calls, the accept and a read. Others wait in the lobby, where they cost no worker and hold no
 /// other up. It holds up to `rules.most_guests`; if one more comes, the one silent for longest leaves. A client may be silent for
 /// `rules.silence`, which each byte begins again. One that was silent for longer goes to the worker as a read that timed out. While
-/// the line is full nothing is accepted, and heads that become whole are kept.
+/// the lane is full nothing is accepted, and heads that become whole are kept.
+///
+/// So many descriptors stay free that dials and checks always find one, as `rules.files` says. If a client's connection would take one
+/// of these, the guest silent for longest is answered as one that timed out and closed at once; a listener without a guest asks the
+/// others for one. If there is none at all, nothing more is accepted until a connection ends.
 ///
 /// The listener's connections have to be set not to block, since a read that waits would hold up all others. They keep the limits on
 /// reads and writes that they came with.
 ///
-/// At a stop, seen within 100 ms, the listener is closed first. Guests keep their limit; those of a frontend without one are closed
-/// without an answer. Then the end of the line is let go, so that workers end after the last connection. The error is the system's or
-/// out of memory, where gathering can't begin.
+/// At a stop, seen within 100 ms, the listener is closed first. Guests keep their limit, and none stays for longer than one from the stop
+/// on, whatever it sends; those of a frontend without one are closed without an answer. Then the lane is let go, so that workers end
+/// after the last connection. The error is the system's or out of memory, where gathering can't begin.
 pub fn gather_until_stopped<R, L>(
     rt: &R,
     alloc: Global,
     listener: L,
     rules: Rules,
     stop: &AtomicBool,
-    to: Sender<Arrival<L::Stream>>,
+    to: Lane<L::Stream>,
 ) -> io::Result<()>
 where
     R: Net + Wait + Clock,
@@ -78,7 +81,7 @@ where
         watch.accept(rt, &listener, &mut lobby, &mut room, now);
     }
     drop(listener);
-    lobby.close_endless();
+    lobby.begin_end(rt, &mut room, millis(rt, watch.start));
     for _ in rt.forever() {
         if lobby.is_empty() || lobby.line.has_ended() {
             break;
@@ -131,6 +134,7 @@ impl Watch {
         let now = millis(rt, self.start);
         self.hear_all(rt, lobby, room, now);
         lobby.dismiss_silent(rt, self.poll.registry(), now);
+        lobby.help_others(self.poll.registry());
         now
     }
 

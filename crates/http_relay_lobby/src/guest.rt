@@ -1,4 +1,4 @@
-ghost use Rattle.std.specs.Prelude.{◌+◌, ◌≤◌, length, vec_len};
+ghost use Rattle.std.specs.Prelude.{◌≡◌, ◌+◌, ◌≤◌, Some, length, vec_len};
 
 use crate::Arrival;
 use crate::search::Search;
@@ -40,6 +40,8 @@ enum Step<S> {
 }
 
 impl<S: Read + Drop> Guest<S> {
+    ghost use Rattle.http_relay_lobby.specs.Reads.{Grown, HeardIs, ReadOn, StepIs};
+
     /// The guest of a connection of which nothing was read yet.
     pub(crate) fn new(arrival: Arrival<S>, now: Option<u64>) -> Self {
         Guest {
@@ -50,7 +52,9 @@ impl<S: Read + Drop> Guest<S> {
     }
 
     /// Reads once what came, without waiting for more: its stream doesn't block.
-    pub(crate) fn read_once(self, room: &mut [u8; HEAD_ROOM]) -> Heard<S> {
+    pub(crate) fn read_once(self, room: &mut [u8; HEAD_ROOM]) -> Heard<S>
+        ensures { HeardIs (ReadOn S.remaining self.arrival) result }
+    {
         match self.step(room) {
             Step::Again(guest) | Step::Waits(guest) => Heard::Stays(guest),
             Step::Leaves(arrival) => Heard::Leaves(arrival),
@@ -59,7 +63,9 @@ impl<S: Read + Drop> Guest<S> {
     }
 
     /// Reads all that came, without waiting for more.
-    pub(crate) fn read_all(self, room: &mut [u8; HEAD_ROOM]) -> Heard<S> {
+    pub(crate) fn read_all(self, room: &mut [u8; HEAD_ROOM]) -> Heard<S>
+        ensures { HeardIs (ReadOn S.remaining self.arrival) result }
+    {
         let mut guest = self;
         for _ in 0..MOST_READS {
             match guest.step(room) {
@@ -73,11 +79,16 @@ impl<S: Read + Drop> Guest<S> {
     }
 
     /// The connection of a guest whose reading failed so.
-    pub(crate) fn failed(self, fault: WireFault) -> Arrival<S> {
+    pub(crate) fn failed(self, fault: WireFault) -> Arrival<S>
+        ensures { result ≡ record self.arrival { failed = Some fault } }
+    {
         self.arrival.with_fault(fault)
     }
 
-    fn step(self, room: &mut [u8; HEAD_ROOM]) -> Step<S> {
+    /// Reads once.
+    fn step(self, room: &mut [u8; HEAD_ROOM]) -> Step<S>
+        ensures { StepIs (ReadOn S.remaining self.arrival) result }
+    {
         let mut guest = self;
         let most = guest.arrival.room_left();
         match guest.arrival.stream.read(&mut room[..most]) {
@@ -94,6 +105,7 @@ impl<S: Read + Drop> Guest<S> {
     /// Takes these bytes, which were read.
     fn hear(self, bytes: &[u8]) -> Step<S>
         requires { vec_len self.arrival.head + length bytes.now ≤ HEAD_ROOM }
+        ensures { StepIs (Grown bytes.now self.arrival) result }
     {
         let Guest {
             arrival,

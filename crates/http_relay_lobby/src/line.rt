@@ -1,6 +1,6 @@
-use crate::Arrival;
 use crate::refusing::refuse;
-use crossbeam_channel::{Sender, TrySendError};
+use crate::{Arrival, Lane};
+use crossbeam_channel::TrySendError;
 use std::alloc::Global;
 use std::collections::VecDeque;
 use std::io::{Read, Write};
@@ -9,13 +9,13 @@ use std::sync::Wait;
 /// The end of the line at which connections are handed on. Nobody waits here: what the line has no room for is kept.
 #[derive(Drop)]
 pub(crate) struct Line<S: Drop> {
-    to: Sender<Arrival<S>>,
+    to: Lane<S>,
     kept: VecDeque<Arrival<S>>,
     has_ended: bool,
 }
 
 impl<S: Drop> Line<S> {
-    pub(crate) fn new(alloc: Global, to: Sender<Arrival<S>>) -> Self {
+    pub(crate) fn new(alloc: Global, to: Lane<S>) -> Self {
         Line {
             to,
             kept: VecDeque::new(alloc),
@@ -28,9 +28,14 @@ impl<S: Drop> Line<S> {
         self.kept.is_empty()
     }
 
-    /// How many connections wait in the line.
+    /// How many connections of this listener wait in the line.
     pub(crate) fn waiting(&self) -> usize {
-        self.to.len()
+        self.to.waiting()
+    }
+
+    /// The listener's end of the line.
+    pub(crate) fn lane(&self) -> &Lane<S> {
+        &self.to
     }
 
     /// Whether nobody takes connections any more.

@@ -1,16 +1,17 @@
-use crate::Arrival;
+use crate::ceiling::Ceiling;
 use crate::guest::{Guest, Heard};
 use crate::guests::{Guests, Leaver};
 use crate::line::Line;
-use crate::refusing::refuse;
-use crossbeam_channel::Sender;
+use crate::refusing::{refuse, time_out};
+use crate::{Arrival, Lane};
 use http_relay_head::HEAD_ROOM;
-use http_relay_listen::passes;
+use http_relay_listen::{OtherFiles, passes};
 use http_relay_wire::WireFault;
 use mio::unix::SourceFd;
 use mio::{Interest, Registry, Token};
 use std::alloc::{AllocError, Global};
 use std::collections::VecDeque;
+use std::io;
 use std::io::{ErrorKind, Read, Write};
 use std::net::{OpenListener, OpenStream, SocketAddr};
 use std::os::fd::AsRawFd;
@@ -19,7 +20,8 @@ use std::sync::Wait;
 /// The most connections that are accepted in one go, so that guests are heard of meanwhile.
 const MOST_ACCEPTED: u32 = 64;
 
-/// How many guests are let go at once where no more files can be opened. With the rest after that these are up to 1,600 a second.
+/// How many guests are let go at once where no more files can be opened, or another listener needs some. With the rest after that
+/// these are up to 1,600 a second.
 const LET_GO: u32 = 16;
 
 /// The most clients of a `bind` that may be connected before their head is whole, idle ones among them. Each takes one of
@@ -34,10 +36,12 @@ pub(crate) const LISTENER: usize = usize::MAX;
 pub struct Rules {
     /// The place of the frontend among the configuration's.
     pub frontend: usize,
-    /// How many milliseconds a client may be silent. Without a number, and at 0, there is no limit.
+    /// How many milliseconds a client may be silent, and how many it has from a stop on. Without a number, and at 0, there is no limit.
     pub silence: Option<u32>,
     /// How many connections may be in the lobby; at least one may.
     pub most_guests: usize,
+    /// The files for which descriptors are left.
+    pub files: OtherFiles,
 }
 
 /// How accepting goes on.
@@ -59,16 +63,17 @@ pub(crate) struct Lobby<S: Drop> {
     guests: Guests<S>,
     /// Those that were accepted just now and whose heads weren't there. No report is asked for of them yet.
     newcomers: VecDeque<Guest<S>>,
+    /// One that was accepted though there was no descriptor for it that clients may keep. It waits for one, and no other is accepted.
+    at_door: Option<(S, SocketAddr)>,
+    ceiling: Ceiling,
     pub(crate) line: Line<S>,
     next_number: usize,
+    /// The moment of the stop, if there was one and the clock could be read then.
+    stopped: Option<Option<u64>>,
 }
 
 impl<S: Read + Write + OpenStream + AsRawFd + Drop> Lobby<S> {
-    pub(crate) fn new(
-        alloc: Global,
-        rules: Rules,
-        to: Sender<Arrival<S>>,
-    ) -> Result<Self, AllocError> {
+    pub(crate) fn new(alloc: Global, rules: Rules, to: Lane<S>) -> Result<Self, AllocError> {
         let mut newcomers = VecDeque::new(alloc);
         newcomers.reserve(MOST_ACCEPTED as usize)?;
         Ok(Lobby {
@@ -76,8 +81,11 @@ impl<S: Read + Write + OpenStream + AsRawFd + Drop> Lobby<S> {
             rules,
             guests: Guests::new(alloc, rules.most_guests)?,
             newcomers,
+            at_door: None,
+            ceiling: Ceiling::new(rules.files),
             line: Line::new(alloc, to),
             next_number: 0,
+            stopped: None,
         })
     }
 
@@ -86,14 +94,23 @@ impl<S: Read + Write + OpenStream + AsRawFd + Drop> Lobby<S> {
         self.guests.len() == 0 && self.newcomers.is_empty() && self.line.is_clear()
     }
 
-    /// How many milliseconds it is until a guest has been silent for too long, limited to so many.
+    /// How many milliseconds it is until a guest has to go, limited to so many.
     pub(crate) fn time_left(&self, now: Option<u64>, most: u64) -> u64 {
         let Some(limit) = self.limit() else {
             return most;
         };
         match self.guests.oldest() {
-            Some(heard) => limit.saturating_sub(silence(now, heard)).min(most),
+            Some(heard) => limit.saturating_sub(self.waited(now, heard)).min(most),
             None => most,
+        }
+    }
+
+    /// For how many milliseconds a guest has used up its limit: since it was last heard of, or since the stop, if that is longer ago.
+    fn waited(&self, now: Option<u64>, heard: Option<u64>) -> u64 {
+        let silent = silence(now, heard);
+        match self.stopped {
+            Some(stopped) => silent.max(silence(now, stopped)),
+            None => silent,
         }
     }
 
@@ -118,17 +135,84 @@ impl<S: Read + Write + OpenStream + AsRawFd + Drop> Lobby<S> {
             if !self.line.is_clear() {
                 return Next::More;
             }
-            match listener.accept() {
-                Ok((stream, address)) => self.welcome(rt, stream, address, room, now),
+            match self.next_client(listener) {
+                Ok((stream, address)) => match self.let_through(registry, stream) {
+                    Ok(stream) => self.welcome(rt, stream, address, room, now),
+                    Err(stream) => {
+                        self.at_door = Some((stream, address));
+                        return Next::Rest;
+                    }
+                },
                 Err(error) if error.kind() == ErrorKind::WouldBlock => return Next::Idle,
                 Err(error) if passes(&error) => {}
                 Err(_) => {
+                    self.ceiling.measure();
                     self.let_go(rt, registry);
                     return Next::Rest;
                 }
             }
         }
         Next::More
+    }
+
+    /// The client at the door, or else the next that is accepted.
+    fn next_client<L: OpenListener<Stream = S>>(
+        &mut self,
+        listener: &L,
+    ) -> io::Result<(S, SocketAddr)> {
+        match self.at_door.take() {
+            Some(client) => Ok(client),
+            None => listener.accept(),
+        }
+    }
+
+    /// The connection under a descriptor that a client may keep. If there is none, the guest that was silent for longest leaves for it; and
+    /// where there is no guest, another listener's. If that isn't enough yet, the connection is given back as it is.
+    fn let_through(&mut self, registry: &Registry, stream: S) -> Result<S, S> {
+        if self.ceiling.allows(&stream) {
+            return Ok(stream);
+        }
+        self.ceiling.measure();
+        if !self.time_out_oldest(registry) {
+            self.line.lane().want_file();
+        }
+        self.ceiling.lowered(stream)
+    }
+
+    /// Lets some guests go if another listener has none and needs a file.
+    pub(crate) fn help_others(&mut self, registry: &Registry) {
+        if self.guests.len() == 0 || !self.line.lane().is_asked_for_file() {
+            return;
+        }
+        for _ in 0..LET_GO {
+            self.time_out_oldest(registry);
+        }
+    }
+
+    /// Answers the guest that was silent for longest as one whose limit ran out, and closes its connection. Says whether there was one.
+    /// No worker does so, since the descriptor is needed now.
+    fn time_out_oldest(&mut self, registry: &Registry) -> bool {
+        let Some(oldest) = self.guests.take_oldest() else {
+            return false;
+        };
+        let stream = oldest.arrival.stream;
+        let _ = registry.deregister(&mut SourceFd(&stream.as_raw_fd()));
+        time_out(stream);
+        true
+    }
+
+    /// Begins the end, at this moment: no guest stays longer than its limit from here on. The client at the door is let in.
+    pub(crate) fn begin_end<R: Wait>(
+        &mut self,
+        rt: &R,
+        room: &mut [u8; HEAD_ROOM],
+        now: Option<u64>,
+    ) {
+        self.stopped = Some(now);
+        if let Some((stream, address)) = self.at_door.take() {
+            self.welcome(rt, stream, address, room, now);
+        }
+        self.close_endless();
     }
 
     /// Reads what the client has sent with its connection, which doesn't block. One whose head isn't whole is a newcomer.
@@ -234,7 +318,7 @@ impl<S: Read + Write + OpenStream + AsRawFd + Drop> Lobby<S> {
         }
     }
 
-    /// Hands on the guests that were silent for too long.
+    /// Hands on the guests whose limit is over.
     pub(crate) fn dismiss_silent<R: Wait>(
         &mut self,
         rt: &R,
@@ -246,7 +330,9 @@ impl<S: Read + Write + OpenStream + AsRawFd + Drop> Lobby<S> {
         };
         for _ in 0..self.guests.len() {
             match self.guests.oldest() {
-                Some(heard) if silence(now, heard) >= limit => self.dismiss_oldest(rt, registry),
+                Some(heard) if self.waited(now, heard) >= limit => self.dismiss_oldest(
+                    rt, registry,
+                ),
                 _ => break,
             }
         }
@@ -273,7 +359,7 @@ impl<S: Read + Write + OpenStream + AsRawFd + Drop> Lobby<S> {
     }
 
     /// Closes the guests and newcomers that nothing else would end, as those of a frontend without a limit.
-    pub(crate) fn close_endless(&mut self) {
+    fn close_endless(&mut self) {
         if self.limit().is_none() {
             self.newcomers.clear();
             for _ in 0..self.guests.len() {

@@ -7,3 +7,8 @@ use std::io::{Read, Write};
 pub(crate) fn refuse<S: Read + Write + Drop>(stream: S) {
     let _ = answer(&mut SocketWire::new(stream), Cause::HeadMemory);
 }
+
+/// Answers a client that it took too long to send its head, and closes its connection. It doesn't wait for the client either.
+pub(crate) fn time_out<S: Read + Write + Drop>(stream: S) {
+    let _ = answer(&mut SocketWire::new(stream), Cause::HeadTimedOut);
+}

@@ -1,6 +1,6 @@
 -- What a worker of the relay does at its ports: it serves the clients' connections one after another, one request each (RFC 9112,
 -- section 9.6). Our own words.
-use Rattle.std.specs.Prelude.{◌≡◌, ℕ, List, [], ◌∷◌, Some}
+use Rattle.std.specs.Prelude.{◌≡◌, ℕ, List, [], ◌∷◌, Option, Some}
 use Rattle.std.specs.declared.net.ipv4_addr.Ipv4Addr.{Ipv4Addr}
 use Rattle.http_relay_dial.specs.Dials.{IsFresh}
 use Rattle.http_relay_serve.specs.Routes.{Routes}
@@ -16,20 +16,21 @@ pub record Service : Type 0 where
   pub source : Ipv4Addr
   pub outcome : Outcome
 
--- A request was served over a fresh connection, by these routes. What the clock, the dialer and the client were like before and after
--- nobody is told
-pub record ServesOnce {P S : Type 0} (seen : P → PortSeen) (server_of : S → ℕ) (routes : Routes) (source : Ipv4Addr) (ports used : List P)
-    (outcome : Outcome) : Type 0 where
+-- A request was served by these routes over a fresh connection, whose client sends this text, where that is known. What the clock and the
+-- dialer were like before, and the scene after, isn't stated
+pub record ServesOnce {P S : Type 0} (seen : P → PortSeen) (server_of : S → ℕ) (routes : Routes) (source : Ipv4Addr) (text : Option (List ℕ))
+    (ports used : List P) (outcome : Outcome) : Type 0 where
   pub before : Scene
   pub after : Scene
   pub fresh : IsFresh before.client
+  pub sent : before.client.reading.unread ≡ text
   pub serves : Serves seen server_of routes source ports used before after outcome
 
 -- a request was served by what the configuration says at its frontend
 abbrev pub ServesAtFrontend : {P S : Type 0} → (P → PortSeen) → (S → ℕ) → ConfigView → List P → List P → Service → Type 0
 ServesAtFrontend seen server_of config ports used service =
-    (routes : FrontendRoutesView) × (routes_at config service.frontend ≡ Some routes)
-    × ServesOnce seen server_of (routes_of routes) service.source ports used service.outcome
+    (routes : FrontendRoutesView) × (text : Option (List ℕ)) × (routes_at config service.frontend ≡ Some routes)
+    × ServesOnce seen server_of (routes_of routes) service.source text ports used service.outcome
 
 -- these requests were served, the last one first, and nothing else was done at the ports
 abbrev pub ServesInTurn : {P S : Type 0} → (P → PortSeen) → (S → ℕ) → ConfigView → List P → List P → List Service → Type 0

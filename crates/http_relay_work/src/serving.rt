@@ -1,5 +1,5 @@
-ghost use Rattle.std.specs.Prelude.{◌≡◌, ◌≤◌, ◌↔◌, length, IfSome, IfNone, IsNone, None};
-ghost use Rattle.http_relay_dial.specs.Dials.{IsFresh, talk_of};
+ghost use Rattle.std.specs.Prelude.{◌≡◌, ◌≤◌, ◌↔◌, [], length, IfSome, IfNone, IsNone, None};
+ghost use Rattle.std.specs.Io.KnownBytes.{prepend_known};
 ghost use Rattle.http_relay_serve.specs.Serves.{port_seen};
 ghost use Rattle.http_relay_work.specs.Services.{ServesAtFrontend, ServesOnce};
 ghost use Rattle.lb_routes.specs.RequestsOf.{routes_at, routes_of};
@@ -9,7 +9,7 @@ use http_relay_head::HEAD_ROOM;
 use http_relay_lobby::Arrival;
 use http_relay_serve::{Cause, Client, DropCause, Outcome, serve_one};
 use http_relay_socket::{EagerStream, FrontedWire};
-use http_relay_wire::{SocketWire, Wire};
+use http_relay_wire::{SocketWire, Wire, WireFault};
 use lb_desk_ports::{Gate, Port};
 use lb_routes::ConfigRoutes;
 use std::alloc::Global;
@@ -52,35 +52,44 @@ where
     } = arrival;
     let routes = ConfigRoutes::at(relay.config, frontend)?;
     let mut client = EagerStream::new(stream);
-    let wire = FrontedWire::new(SocketWire::new(&mut client), &head, failed);
-    let outcome = serve_over(rt, alloc, worker, &routes, source, wire, ports, room);
+    let wire = SocketWire::new(&mut client);
+    let outcome = serve_read(
+        rt, alloc, worker, &routes, source, &head, failed, wire, ports, room,
+    );
     end(rt, outcome, client, leavers);
     // The client's end goes first: where the client ends before, its last packets cost more here.
     worker.dialer.close_last();
     Some(outcome)
 }
 
-/// Serves the request that the client sends over the wire, of which nothing was read or written yet.
-fn serve_over<R, C, P, G>(
+/// Serves the request of a client of which these bytes were read before, and perhaps how reading failed after them. What the wire gives
+/// comes after them; nothing was written to it yet.
+fn serve_read<R, W, P, G>(
     rt: &R,
     alloc: Global,
     worker: &mut RelayWorker<G>,
     routes: &ConfigRoutes<'_>,
     source: Ipv4Addr,
-    wire: C,
+    head: &[u8],
+    failed: Option<WireFault>,
+    wire: W,
     ports: &mut [P],
     room: &mut [u8; HEAD_ROOM],
 ) -> Outcome
 where
     R: Net + Clock,
-    C: Wire + Drop,
+    W: Wire + Drop,
     P: Port<R>,
     G: Gate<R>,
     requires room { length routes.now.backends ≤ length ports.old }
-    requires fresh { IsFresh (talk_of C.written C.reading C.faults wire) }
-    ensures { ServesOnce (port_seen P.entries P.refusals) P.server_of (routes_of routes.now) source ports.old ports.new result }
+    requires unwritten { IfSome (W.written wire) (λ bytes. bytes ≡ []) }
+    ensures { ServesOnce (port_seen P.entries P.refusals) P.server_of (routes_of routes.now) source
+        (prepend_known head.now (W.reading wire).unread) ports.old ports.new result }
 {
-    let mut client = Client { wire, source };
+    let mut client = Client {
+        wire: FrontedWire::new(wire, head, failed),
+        source,
+    };
     serve_one(rt, alloc, worker, routes, ports, &mut client, room)
 }
 

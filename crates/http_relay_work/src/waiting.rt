@@ -2,7 +2,7 @@
 use crate::{Leavers, Post};
 use crossbeam_channel::{Receiver, RecvTimeoutError};
 use http_relay_head::HEAD_ROOM;
-use http_relay_lobby::Arrival;
+use http_relay_lobby::{Arrival, WaitingLine};
 use std::io::{Read, Write};
 use std::net::OpenStream;
 use std::sync::Wait;
@@ -15,10 +15,23 @@ const TICK_MILLIS: u64 = 20;
 /// For how many milliseconds a worker on call is at the line without a client before it rests.
 const STAY_MILLIS: u64 = 1000;
 
+/// A word that came over a channel.
+#[derive(Clone, Copy, Debug, PartialEq, Eq)]
+enum Word {
+    /// It came while the worker waited for it.
+    CameNow,
+    /// It was there before.
+    WasThere,
+}
+
 /// The next connection to serve, or none if no more can come and all that were served are gone.
+///
+/// A client that has reset its connection while it was in the line waits for no answer, so its connection is closed, and no server is
+/// asked. To see that costs a system call, which one that comes to a waiting worker doesn't need. A client that has only ended its
+/// own direction is served.
 pub(crate) fn next_arrival<R, S>(
     rt: &R,
-    arrivals: &Receiver<Arrival<S>>,
+    line: &WaitingLine<S>,
     post: Post<'_>,
     leavers: &mut Leavers<S>,
     room: &mut [u8; HEAD_ROOM],
@@ -28,34 +41,55 @@ where
     S: Read + Write + OpenStream + Drop,
 {
     leavers.look_at_older(rt, room);
-    let next = match post.calls {
-        None => next_of(rt, arrivals, leavers, room),
-        Some(calls) => next_on_call(rt, arrivals, post, calls, leavers, room),
-    };
-    if next.is_none() {
-        see_off(rt, leavers, room);
+    for _ in rt.forever() {
+        let word = match post.calls {
+            None => next_of(rt, line.words(), leavers, room),
+            Some(calls) => next_on_call(rt, line, post, calls, leavers, room),
+        };
+        let Some((arrival, word)) = arrival_of(rt, line, word) else {
+            break;
+        };
+        if word == Word::CameNow || !is_reset(&arrival.stream) {
+            return Some(arrival);
+        }
     }
-    next
+    see_off(rt, leavers, room);
+    None
+}
+
+/// The connection for this word.
+fn arrival_of<R: Wait, S: Drop>(
+    rt: &R,
+    line: &WaitingLine<S>,
+    word: Option<Word>,
+) -> Option<(Arrival<S>, Word)> {
+    let word = word?;
+    Some((line.take(rt)?, word))
+}
+
+/// Whether the client has reset its connection: the system then keeps an error for it. Bytes that came before aren't read.
+fn is_reset<S: OpenStream>(stream: &S) -> bool {
+    matches!(stream.take_error(), Ok(Some(_)))
 }
 
 /// What comes next over the channel, or none if nothing more can come.
-fn next_of<R, S, T>(
+fn next_of<R, S>(
     rt: &R,
-    from: &Receiver<T>,
+    from: &Receiver<()>,
     leavers: &mut Leavers<S>,
     room: &mut [u8; HEAD_ROOM],
-) -> Option<T>
+) -> Option<Word>
 where
     R: Clock + Wait,
     S: Read + Write + OpenStream + Drop,
-    T: Drop,
 {
     for _ in rt.forever() {
+        let word = word_of(from);
         if leavers.is_empty() {
-            return from.recv(rt).ok();
+            return from.recv(rt).ok().map(|()| word);
         }
         match from.recv_timeout(rt, Duration::from_millis(TICK_MILLIS)) {
-            Ok(next) => return Some(next),
+            Ok(()) => return Some(word),
             Err(RecvTimeoutError::Timeout) => leavers.look(rt, usize::MAX, room),
             Err(RecvTimeoutError::Disconnected) => break,
         }
@@ -63,15 +97,24 @@ where
     None
 }
 
-/// The next connection of a worker on call. It rests first if it is one too many, or if nothing came for a while.
+/// What the next word that is taken from the channel is.
+fn word_of(from: &Receiver<()>) -> Word {
+    if from.is_empty() {
+        Word::CameNow
+    } else {
+        Word::WasThere
+    }
+}
+
+/// The next word for a worker on call. It rests first if it is one too many, or if nothing came for a while.
 fn next_on_call<R, S>(
     rt: &R,
-    arrivals: &Receiver<Arrival<S>>,
+    line: &WaitingLine<S>,
     post: Post<'_>,
     calls: &Receiver<()>,
     leavers: &mut Leavers<S>,
     room: &mut [u8; HEAD_ROOM],
-) -> Option<Arrival<S>>
+) -> Option<Word>
 where
     R: Clock + Wait,
     S: Read + Write + OpenStream + Drop,
@@ -86,8 +129,9 @@ where
         } else {
             TICK_MILLIS
         };
-        rests = match arrivals.recv_timeout(rt, Duration::from_millis(wait)) {
-            Ok(arrival) => return Some(arrival),
+        let word = word_of(line.words());
+        rests = match line.words().recv_timeout(rt, Duration::from_millis(wait)) {
+            Ok(()) => return Some(word),
             Err(RecvTimeoutError::Timeout) => leavers.is_empty(),
             Err(RecvTimeoutError::Disconnected) => break,
         };

@@ -4,9 +4,8 @@ ghost use Rattle.http_relay_work.specs.Services.{Service, ServesInTurn};
 
 use crate::waiting::next_arrival;
 use crate::{Leavers, Post, Relay, serve_arrival};
-use crossbeam_channel::Receiver;
 use http_relay_head::HEAD_ROOM;
-use http_relay_lobby::Arrival;
+use http_relay_lobby::WaitingLine;
 use http_relay_serve::Worker;
 use http_relay_system::{SocketDialer, SystemClock};
 use lb_desk_ports::{Gate, Port};
@@ -21,12 +20,12 @@ use std::time::Clock;
 ///
 /// All that a worker needs for its requests is made before the first; a request allocates three times, and never after its
 /// dial. A client that doesn't close its connection at once is waited for beside the next requests. Where the line has ended the
-/// worker waits for the last of them, for a second at most.
+/// worker waits for the last of them, for a second at most. One that was reset while it was in the line is closed, and no port is used.
 pub fn work<R, P, G>(
     rt: &R,
     alloc: Global,
     relay: Relay<'_>,
-    arrivals: &Receiver<Arrival<R::Stream>>,
+    line: &WaitingLine<R::Stream>,
     post: Post<'_>,
     gate: G,
     ports: Vec<P>,
@@ -53,7 +52,7 @@ where
     };
     let mut ports = ports;
     for _ in rt.forever() {
-        let Some(arrival) = next_arrival(rt, arrivals, post, &mut leavers, &mut room) else {
+        let Some(arrival) = next_arrival(rt, line, post, &mut leavers, &mut room) else {
             break;
         };
         post.begin();

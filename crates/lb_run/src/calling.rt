@@ -3,7 +3,7 @@ use crate::floor::Floor;
 use crate::threads::relay_on_call;
 use crate::{Host, SharedGate};
 use crossbeam_channel::{Receiver, Sender};
-use http_relay_lobby::Arrival;
+use http_relay_lobby::WaitingLine;
 use http_relay_work::Watch;
 use lb_desk_shared::Naming;
 use std::alloc::AllocError;
@@ -20,7 +20,7 @@ pub(crate) fn call_workers<'s, E, R: Host, B: Naming + Send + Sync, G: SharedGat
     rt: &'s R,
     scope: &'s Scope<'s, E>,
     floor: &'s Floor<'s, B, G>,
-    arrivals: Receiver<Arrival<TcpStream>>,
+    line: WaitingLine<TcpStream>,
     to: Sender<()>,
     calls: Receiver<()>,
 ) {
@@ -30,13 +30,13 @@ pub(crate) fn call_workers<'s, E, R: Host, B: Naming + Send + Sync, G: SharedGat
     };
     for _ in rt.forever() {
         let is_stopped = floor.stop.load(Ordering::SeqCst);
-        if is_stopped && no_more_to_call_for(floor, &arrivals) {
+        if is_stopped && no_more_to_call_for(floor, &line) {
             break;
         }
-        for _ in 0..watch.look(arrivals.len()) {
+        for _ in 0..watch.look(line.len()) {
             if floor.roster.call_resting() {
                 let _ = to.try_send(rt, ());
-            } else if make_one(rt, scope, floor, &arrivals, &calls, &mut watch).is_err() {
+            } else if make_one(rt, scope, floor, &line, &calls, &mut watch).is_err() {
                 break;
             }
         }
@@ -47,9 +47,9 @@ pub(crate) fn call_workers<'s, E, R: Host, B: Naming + Send + Sync, G: SharedGat
 /// Whether, at a stop, no client waits and none will come, or no worker is left that could serve one.
 fn no_more_to_call_for<B: Naming, G: Drop>(
     floor: &Floor<'_, B, G>,
-    arrivals: &Receiver<Arrival<TcpStream>>,
+    line: &WaitingLine<TcpStream>,
 ) -> bool {
-    let no_more_come = floor.listeners.load(Ordering::SeqCst) == 0 && arrivals.is_empty();
+    let no_more_come = floor.listeners.load(Ordering::SeqCst) == 0 && line.is_empty();
     no_more_come || floor.roster.is_empty()
 }
 
@@ -58,19 +58,19 @@ fn make_one<'s, E, R: Host, B: Naming + Send + Sync, G: SharedGate<R>>(
     rt: &'s R,
     scope: &'s Scope<'s, E>,
     floor: &'s Floor<'s, B, G>,
-    arrivals: &Receiver<Arrival<TcpStream>>,
+    line: &WaitingLine<TcpStream>,
     calls: &Receiver<()>,
     watch: &mut Watch<'_>,
 ) -> Result<(), AllocError> {
     let Some(place) = watch.next_place() else {
         return Err(AllocError);
     };
-    let arrivals = arrivals.clone()?;
+    let line = line.copy(floor.alloc)?;
     let calls = calls.clone()?;
     floor.roster.enter();
     let made = Builder::new().stack_size(STACK).spawn_scoped(
         scope,
-        move || relay_on_call(rt, floor, arrivals, place, calls),
+        move || relay_on_call(rt, floor, line, place, calls),
     );
     if made.is_err() {
         floor.roster.leave();

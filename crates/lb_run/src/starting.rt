@@ -7,10 +7,11 @@ use crate::floor::Floor;
 use crate::threads::{check, listen, plan, relay};
 use crate::{Host, SharedGate};
 use command_socket_listen::CommandListener;
-use crossbeam_channel::{Receiver, Sender, bounded};
-use http_relay_lobby::{Arrival, waiting_line};
+use crossbeam_channel::{Receiver, bounded};
+use http_relay_listen::OtherFiles;
+use http_relay_lobby::{Lane, WaitingLine, waiting_line};
 use http_relay_work::MOST_ON_CALL;
-use lb_config::BackendConfig;
+use lb_config::{BackendConfig, Config};
 use lb_desk_planner::Bell;
 use lb_desk_ports::Refused;
 use lb_desk_shared::Naming;
@@ -25,6 +26,12 @@ use std::time::Duration;
 /// How many milliseconds pass between two looks at the flag where no operator can connect.
 const TICK_MILLIS: u64 = 100;
 
+/// How many files a listener needs: one to watch its clients, and two for a client that waits at its door.
+const FILES_A_LISTENER: usize = 3;
+
+/// How many files operators' connections and files that are read or written need.
+const MORE_FILES: usize = 32;
+
 /// Starts all threads, and answers operators in this one until the balancer is to end. Returning, it lets go of all channels, by whose
 /// ends checks and planners end.
 pub(crate) fn start_and_answer<'s, E, R: Host, B: Naming + Send + Sync, G: SharedGate<R>>(
@@ -35,13 +42,14 @@ pub(crate) fn start_and_answer<'s, E, R: Host, B: Naming + Send + Sync, G: Share
     operators: Option<&CommandListener>,
 ) -> Result<(), Refused> {
     say_listening(rt, floor.alloc, &doors)?;
-    let (to, arrivals) = waiting_line(floor.alloc)?;
+    let (lanes, line) = waiting_line(floor.alloc, doors.len())?;
+    let files = other_files(floor.config, &doors);
     let (_quit, ends) = bounded(floor.alloc, 1)?;
     let bells = start_planners(rt, scope, floor)?;
     start_checks(rt, scope, floor, &bells, ends)?;
-    start_workers(rt, scope, floor, &arrivals)?;
-    start_calls(rt, scope, floor, arrivals)?;
-    start_listeners(rt, scope, floor, doors, to)?;
+    start_workers(rt, scope, floor, &line)?;
+    start_calls(rt, scope, floor, line)?;
+    start_listeners(rt, scope, floor, doors, lanes, files)?;
     match operators {
         Some(listener) => answer_operators(rt, floor, listener, Bells { rt, bells }),
         None => {
@@ -118,6 +126,15 @@ fn has_checks(backend: &BackendConfig) -> bool {
         .any(|server| server.settings().check.is_some())
 }
 
+/// How many files checks of the backend have open at most: a connection to each server, and two of their own.
+fn files_of_checks(backend: &BackendConfig) -> usize {
+    if has_checks(backend) {
+        backend.servers().len().saturating_add(2)
+    } else {
+        0
+    }
+}
+
 fn copy_of(bell: Option<&Option<Bell>>) -> Result<Option<Bell>, AllocError> {
     match bell {
         Some(Some(bell)) => Ok(Some(bell.clone()?)),
@@ -130,12 +147,12 @@ fn start_workers<'s, E, R: Host, B: Naming + Send + Sync, G: SharedGate<R>>(
     rt: &'s R,
     scope: &'s Scope<'s, E>,
     floor: &'s Floor<'s, B, G>,
-    arrivals: &Receiver<Arrival<TcpStream>>,
+    line: &WaitingLine<TcpStream>,
 ) -> Result<(), AllocError> {
     for place in 0..usize::from(floor.config.relays()) {
-        let arrivals = arrivals.clone()?;
+        let line = line.copy(floor.alloc)?;
         floor.roster.enter();
-        scope.spawn(move || relay(rt, floor, arrivals, place))?;
+        scope.spawn(move || relay(rt, floor, line, place))?;
     }
     Ok(())
 }
@@ -145,24 +162,42 @@ fn start_calls<'s, E, R: Host, B: Naming + Send + Sync, G: SharedGate<R>>(
     rt: &'s R,
     scope: &'s Scope<'s, E>,
     floor: &'s Floor<'s, B, G>,
-    arrivals: Receiver<Arrival<TcpStream>>,
+    line: WaitingLine<TcpStream>,
 ) -> Result<(), AllocError> {
     let (to, calls) = bounded(floor.alloc, MOST_ON_CALL)?;
-    scope.spawn(move || call_workers(rt, scope, floor, arrivals, to, calls))?;
+    scope.spawn(move || call_workers(rt, scope, floor, line, to, calls))?;
     Ok(())
 }
 
-/// Starts a listener at each door. `to` goes with them, so that the workers end after the last of them.
+/// The files beside clients' connections: those that are open by now, a dial for each worker, and those of listeners, checks and
+/// operators.
+fn other_files(config: &Config, doors: &[ClientDoor]) -> OtherFiles {
+    let own = match doors.first() {
+        Some(door) => door.listener.next_descriptor(),
+        None => 0,
+    };
+    let mut others = doors.len().saturating_mul(FILES_A_LISTENER);
+    for backend in config.backends() {
+        others = others.saturating_add(files_of_checks(backend));
+    }
+    OtherFiles {
+        own,
+        dials: usize::from(config.relays()) + MOST_ON_CALL,
+        others: others.saturating_add(MORE_FILES),
+    }
+}
+
+/// Starts a listener at each door, with a lane of the line for each, so that the workers end after the last of them.
 fn start_listeners<'s, E, R: Host, B: Naming + Send + Sync, G: SharedGate<R>>(
     rt: &'s R,
     scope: &'s Scope<'s, E>,
     floor: &'s Floor<'s, B, G>,
     doors: Vec<ClientDoor>,
-    to: Sender<Arrival<TcpStream>>,
+    lanes: Vec<Lane<TcpStream>>,
+    files: OtherFiles,
 ) -> Result<(), AllocError> {
-    for door in doors {
-        let to = to.clone()?;
-        scope.spawn(move || listen(rt, floor, door, to))?;
+    for (door, lane) in doors.into_iter().zip(lanes) {
+        scope.spawn(move || listen(rt, floor, door, lane, files))?;
     }
     Ok(())
 }

@@ -7,8 +7,9 @@ use crate::{Host, SharedGate};
 use check_workers_loop::check_until_stopped;
 use check_workers_system::SocketProbe;
 use check_workers_targets::{checks_of, targets_of};
-use crossbeam_channel::{Receiver, Sender};
-use http_relay_lobby::{Arrival, MOST_GUESTS, Rules, gather_until_stopped};
+use crossbeam_channel::Receiver;
+use http_relay_listen::OtherFiles;
+use http_relay_lobby::{Lane, MOST_GUESTS, Rules, WaitingLine, gather_until_stopped};
 use http_relay_system::SystemClock;
 use http_relay_work::{Post, Relay, work};
 use lb_desk_planner::{Bell, Notices, plan_when_told};
@@ -23,7 +24,8 @@ pub(crate) fn listen<R: Host, B: Naming, G: Drop>(
     rt: &R,
     floor: &Floor<'_, B, G>,
     door: ClientDoor,
-    to: Sender<Arrival<TcpStream>>,
+    to: Lane<TcpStream>,
+    files: OtherFiles,
 ) {
     let ClientDoor {
         listener,
@@ -35,6 +37,7 @@ pub(crate) fn listen<R: Host, B: Naming, G: Drop>(
         frontend,
         silence: limits.read,
         most_guests: MOST_GUESTS,
+        files,
     };
     floor.listeners.fetch_add(1, Ordering::SeqCst);
     if gather_until_stopped(rt, floor.alloc, listener, rules, floor.stop, to).is_err() {
@@ -47,11 +50,11 @@ pub(crate) fn listen<R: Host, B: Naming, G: Drop>(
 pub(crate) fn relay<R: Host, B: Naming, G: SharedGate<R>>(
     rt: &R,
     floor: &Floor<'_, B, G>,
-    arrivals: Receiver<Arrival<TcpStream>>,
+    line: WaitingLine<TcpStream>,
     place: usize,
 ) {
     let post = Post::at_the_line(floor.roster, place);
-    if serve_at(rt, floor, &arrivals, post).is_err() {
+    if serve_at(rt, floor, &line, post).is_err() {
         floor.starve();
     }
 }
@@ -60,23 +63,18 @@ pub(crate) fn relay<R: Host, B: Naming, G: SharedGate<R>>(
 pub(crate) fn relay_on_call<R: Host, B: Naming, G: SharedGate<R>>(
     rt: &R,
     floor: &Floor<'_, B, G>,
-    arrivals: Receiver<Arrival<TcpStream>>,
+    line: WaitingLine<TcpStream>,
     place: usize,
     calls: Receiver<()>,
 ) {
-    let _ = serve_at(
-        rt,
-        floor,
-        &arrivals,
-        Post::on_call(floor.roster, place, &calls),
-    );
+    let _ = serve_at(rt, floor, &line, Post::on_call(floor.roster, place, &calls));
 }
 
 /// Serves clients at this post, from the worker's first seat to its last pass.
 fn serve_at<R: Host, B: Naming, G: SharedGate<R>>(
     rt: &R,
     floor: &Floor<'_, B, G>,
-    arrivals: &Receiver<Arrival<TcpStream>>,
+    line: &WaitingLine<TcpStream>,
     post: Post<'_>,
 ) -> Result<(), Refused> {
     let seats = match floor.seats(rt) {
@@ -90,7 +88,7 @@ fn serve_at<R: Host, B: Naming, G: SharedGate<R>>(
         config: floor.config,
         start: floor.start,
     };
-    let seats = work(rt, floor.alloc, relay, arrivals, post, floor.gate, seats);
+    let seats = work(rt, floor.alloc, relay, line, post, floor.gate, seats);
     floor.leave_all(rt, seats);
     floor.roster.leave();
     Ok(())

@@ -1,12 +1,11 @@
 use crate::site::{NOWHERE, OPEN, TIMED, arrival, client, config, got, open_port};
-use crossbeam_channel::Receiver;
-use http_relay_lobby::{Arrival, waiting_line};
+use http_relay_lobby::{Lane, WaitingLine, waiting_line};
 use http_relay_work::{Post, Relay, Roster, work};
 use lb_desk_ports::{OpenGate, PortScript, ScriptedPort};
 use std::alloc::Global;
 use std::io;
 use std::io::{Read, Write};
-use std::net::{Net, TcpListener};
+use std::net::{Net, TcpListener, TcpStream};
 use std::sync::Wait;
 use std::test::Fail;
 use std::thread::join;
@@ -31,7 +30,7 @@ fn work_with_one_port<'a, R: Net + Clock + Wait>(
     rt: &R,
     alloc: Global,
     relay: Relay<'_>,
-    from: &Receiver<Arrival<R::Stream>>,
+    from: &WaitingLine<R::Stream>,
     port: &'a PortScript<'a>,
 ) -> Option<Vec<ScriptedPort<'a>>> {
     let mut ports = Vec::new(alloc);
@@ -52,22 +51,37 @@ fn has_events(ports: Option<&[ScriptedPort<'_>]>, count: usize) -> bool {
     }
 }
 
-// Two clients get the server's response, and one whose frontend isn't there gets nothing. Then the line has ended, and so has the
-// worker: its port has four events of each request that was served.
+// Puts into the line a request whose client has reset its connection since.
+fn put_reset(rt: &HostRuntime, lane: &Lane<TcpStream>) -> Result<(), Fail> {
+    let (mut stream, far) = client(rt, b"", false)?;
+    // The system resets a connection that is closed before all is read.
+    stream.write_all(b"unread")?;
+    drop(far);
+    if let Some(arrival) = arrival(rt, stream, OPEN, REQUEST, None)? {
+        assert!(rt; lane.try_send(rt, arrival).is_ok());
+    }
+    Ok(())
+}
+
+// Two clients that have ended their direction get the server's response, and one whose frontend isn't there gets nothing. For one that
+// has reset its connection no server is asked. Then the line has ended, and so has the worker: its port has four events of each request
+// that was served.
 #[test]
 fn a_worker_serves_what_stands_in_the_line(rt: HostRuntime) -> Result<(), Fail> {
     let server = TcpListener::bind(&rt, "127.0.0.1:0")?;
     let config = config(&rt, server.local_addr()?.port())?;
-    let (to, from) = waiting_line(rt.alloc())?;
+    let (mut lanes, from) = waiting_line(rt.alloc(), 1)?;
+    let lane = lanes.pop().ok_or("a lane")?;
+    put_reset(&rt, &lane)?;
     let mut clients = Vec::new(rt.alloc());
     for frontend in [OPEN, NOWHERE, TIMED] {
         let (stream, far) = client(&rt, b"", true)?;
         if let Some(arrival) = arrival(&rt, stream, frontend, REQUEST, None)? {
-            to.send(&rt, arrival)?;
+            assert!(rt; lane.try_send(&rt, arrival).is_ok());
         }
         clients.push(far)?;
     }
-    drop(to);
+    drop(lane);
     let relay = Relay {
         config: &config,
         start: Instant::now(&rt)?,

@@ -1,0 +1,163 @@
+"""Floods of connections, clients that are gone before they are served, and clients that drip at a stop."""
+
+from __future__ import annotations
+
+import contextlib
+import selectors
+import socket
+import threading
+import time
+
+from .answers import own
+from .cases import PATIENCE, case, expect, expect_equal, wait_until
+from .clients import Client, ask, at_once, is_refused
+from .farms import HOST, LIMITS, Farm, ends_well, listen, server
+from .origins import response
+
+A = response(b"a")
+GET = b"GET / HTTP/1.1\r\nHost: x\r\n\r\n"
+# `tune.relays 1`, and those that may be called.
+MOST_WORKERS = 1 + 2048
+
+
+def attack(port: int, count: int, over: threading.Event) -> None:
+    """Keeps so many idle connections, and opens each anew as soon as it is let go."""
+    with selectors.DefaultSelector() as waiting, contextlib.ExitStack() as stack:
+
+        def open_one() -> None:
+            stream = stack.enter_context(socket.socket())
+            stream.setblocking(False)
+            with contextlib.suppress(BlockingIOError):
+                stream.connect((HOST, port))
+            waiting.register(stream, selectors.EVENT_READ)
+
+        for _ in range(count):
+            open_one()
+        while not over.is_set():
+            for key, _ in waiting.select(0.1):
+                waiting.unregister(key.fileobj)
+                key.fileobj.close()  # type: ignore[union-attr]
+                open_one()
+
+
+@case
+def at_the_limit_of_open_files_no_request_is_refused_while_others_open_connections_anew(farm: Farm) -> None:
+    port, over = farm.port(), threading.Event()
+    lines = ("timeout client 20s", "timeout connect 20s", "timeout server 20s", server("a", farm.origin(), "check inter 100ms"))
+    balancer = farm.start(listen(port, *lines), ("tune.relays 4",), most_files=256)
+    attacker = threading.Thread(target=attack, args=(port, 500, over), daemon=True)
+    attacker.start()
+    try:
+        wait_until("as many are connected as may be", lambda: balancer.descriptors() > 100)
+        answered = at_once(lambda _: [ask(port, GET) for _ in range(30)], range(10))
+    finally:
+        over.set()
+        attacker.join(PATIENCE)
+    every = [answer for answers_of_one in answered for answer in answers_of_one]
+    # One that was long in sending its head may be taken for a silent one.
+    expect_equal("other answers than those of a server and 408", [it for it in every if it not in (A, own(408))], [])
+    expect(f"most are served: {every.count(A)} of 300", every.count(A) >= 270)
+    expect("no check failed", "is DOWN" not in balancer.errors())
+    wait_until("descriptors are free again", lambda: balancer.descriptors() < 40)
+    expect_equal("the answer to another client", ask(port, GET), A)
+    ends_well(balancer, checked=True)
+
+
+def late_server(farm: Farm) -> socket.socket:
+    """A server that is connected to and accepts nothing yet."""
+    late = farm.stack.enter_context(socket.socket())
+    late.bind((HOST, 0))
+    late.listen(4096)
+    late.settimeout(PATIENCE)
+    return late
+
+
+def answer_next(late: socket.socket) -> bytes:
+    """Answers the next request that it has, and tells it."""
+    stream, _ = late.accept()
+    with stream:
+        request = stream.recv(1 << 16)
+        stream.sendall(A)
+    return request
+
+
+def hold_all_workers(farm: Farm, port: int) -> list[Client]:
+    """Clients that keep all workers waiting for their server."""
+    clients = [farm.stack.enter_context(Client(port)) for _ in range(MOST_WORKERS)]
+    for client in clients:
+        client.send(GET)
+    return clients
+
+
+@case
+def a_client_that_resets_while_it_waits_in_the_line_is_dialled_for_by_nobody(farm: Farm) -> None:
+    port, late = farm.port(), late_server(farm)
+    balancer = farm.start(listen(port, *LIMITS, server("a", late.getsockname()[1])), ("tune.relays 1",))
+    clients = hold_all_workers(farm, port)
+    wait_until("all workers have a request", lambda: len(balancer.events("web")) == 2 * MOST_WORKERS)
+    gone = [farm.stack.enter_context(Client(port)) for _ in range(20)]
+    for client in gone:
+        client.send(GET.replace(b"/ ", b"/gone "))
+    stays = [farm.stack.enter_context(Client(port)) for _ in range(20)]
+    for client in stays:
+        client.send(GET)
+        client.end_sending()
+    # No worker is free: they are in the line.
+    threading.Event().wait(0.5)
+    for client in gone:
+        client.reset()
+    requests = [answer_next(late) for _ in range(MOST_WORKERS + len(stays))]
+    expect_equal("requests of those that reset", [it for it in requests if b"/gone" in it], [])
+    expect_equal("the answers", [client.read_to_end() for client in (*clients, *stays)], [A] * len(requests))
+    expect_equal("events", ends_well(balancer), {"web": 4 * len(requests)})
+
+
+@case
+def a_flood_at_one_address_leaves_another_its_turn(farm: Farm) -> None:
+    flooded, quiet, late = farm.port(), farm.port(), late_server(farm)
+    sections = listen(flooded, *LIMITS, server("a", late.getsockname()[1]), name="flooded") + listen(
+        quiet, *LIMITS, server("b", farm.origin()), name="quiet"
+    )
+    balancer = farm.start(sections, ("tune.relays 1",))
+    clients = hold_all_workers(farm, flooded)
+    wait_until("all workers have a request", lambda: len(balancer.events("flooded")) == 2 * MOST_WORKERS)
+    clients += [farm.stack.enter_context(Client(flooded)) for _ in range(600)]
+    for client in clients[MOST_WORKERS:]:
+        client.send(GET)
+    threading.Event().wait(0.5)
+    with Client(quiet) as client:
+        client.send(GET)
+        for _ in range(20):
+            answer_next(late)
+        # Others of the flooded one have waited for longer.
+        expect_equal("the answer of the quiet one", client.read_to_end(), A)
+    for _ in range(len(clients) - 20):
+        answer_next(late)
+    expect_equal("the answers of the flooded one", [client.read_to_end() for client in clients], [A] * len(clients))
+    expect_equal("events", ends_well(balancer, "flooded", "quiet"), {"flooded": 4 * len(clients), "quiet": 4})
+
+
+@case
+def a_stop_waits_for_a_client_that_drips_no_longer_than_its_limit(farm: Farm) -> None:
+    port, over = farm.port(), threading.Event()
+    balancer = farm.start(listen(port, "timeout client 2s", server("a", farm.origin())))
+
+    def drip(client: Client) -> None:
+        with contextlib.suppress(OSError):
+            while not over.wait(0.3):
+                client.send(b"x")
+
+    with Client(port) as client:
+        client.send(b"GET /")
+        dripping = threading.Thread(target=drip, args=(client,), daemon=True)
+        dripping.start()
+        threading.Event().wait(3)
+        expect("it may drip for longer than its limit", not balancer.has_ended() and not is_refused(port))
+        expect_equal("the answer to `stop`", balancer.tell("stop"), "\n")
+        begin = time.monotonic()
+        ended = balancer.wait()
+        took = time.monotonic() - begin
+        over.set()
+        dripping.join(PATIENCE)
+    expect(f"it ends after the limit: {took:.1f} s", took <= 6)
+    expect_equal("the end", (ended.status, ended.out), (0, "closed web events 0 rising yes\n"))
