@@ -1,17 +1,67 @@
--- The two events of a request for a server, with their replies.
-use Rattle.std.proofs.Common.{◌≡◌, ℕ, List, [], ◌∷◌, ◌++◌, Ok, refl, sym, ap, ◌∙◌}
+-- What calls add to a seat's entries.
+use Rattle.std.proofs.Common.{◌≡◌, ℕ, List, [], ◌∷◌, ◌++◌, Result, Ok, Err, IfOk, OnErr, refl, sym, ap, ◌∙◌, append-nil, append_assoc}
+use mathlib.Core.List.{map-append}
+use Rattle.pin_set.specs.declared.totals.Score.{Score}
 use Rattle.lb_desk_model.specs.declared.entry.Entry.{Entry}
-use Rattle.lb_desk_model.specs.declared.event.Event.TheVariants.{Serve, Expire}
+use Rattle.lb_desk_model.specs.declared.event.Event.{Event}
+use Rattle.lb_desk_model.specs.declared.event.Event.TheVariants.{Serve, Open, Close, Expire, Snapshot, Install}
 use Rattle.lb_desk_model.specs.declared.event.Request.{Request}
 use Rattle.lb_desk_model.specs.declared.reply.Refusal.TheVariants.{NoSuchServer, NoServer}
 use Rattle.lb_desk_model.specs.declared.reply.Reply.{Reply}
-use Rattle.lb_desk_model.specs.declared.reply.Reply.TheVariants.{Served, Expired, Refused}
+use Rattle.lb_desk_model.specs.declared.reply.Reply.TheVariants.{Served, Expired, Refused, Sheet, Installed}
+use Rattle.lb_desk_model.specs.Backends.{BackendParts}
 use Rattle.lb_desk_model.specs.States.{State}
 use Rattle.lb_desk_model.specs.Steps.{Does}
 use Rattle.lb_desk_ports.specs.declared.replies.Asked.{Asked}
+use Rattle.lb_desk_ports.specs.declared.refused.Refused.{Refused as Refusal}
+use Rattle.lb_desk_ports.specs.declared.replies.Opening.{Opening}
+use Rattle.lb_desk_ports.specs.declared.replies.Shut.{Shut}
 use Rattle.lb_desk_ports.specs.Calls.{entry}
-use Rattle.lb_desk_ports.specs.Ports.{AddsAsk, asked_reply}
+use Rattle.lb_desk_ports.specs.Movers.{PlansNow}
+use Rattle.lb_desk_ports.specs.Ports.{AddsAsk, asked_reply, opening_entries, opening_reply, shut_reply, shutting_entries}
+use Rattle.lb_desk_tie.specs.Receipts.{PassView}
+use Rattle.lb_desk_shared.specs.Calls.{AddsPlan, AddsStep, entries_of}
 use Rattle.lb_desk_seat.specs.Replies.{Answers, asked_of}
+
+-- a step adds its entry
+pub step_adds : (backend : BackendParts) (old new : PassView Entry) (event : Event) (reply : Reply) → AddsStep backend old event reply new
+    → entries_of new.receipts ≡ entries_of old.receipts ++ entry event reply ∷ []
+step_adds backend old new event reply adds =
+    ap (λ (p : PassView Entry). entries_of p.receipts) adds.receipt
+    ∙ map-append (λ (r : ℕ × Entry). r.1) old.receipts ((adds.number, entry event reply) ∷ [])
+
+-- a refused call adds none
+none_added : (old new : PassView Entry) → new ≡ old → entries_of new.receipts ≡ entries_of old.receipts ++ []
+none_added old new same = ap (λ (p : PassView Entry). entries_of p.receipts) same ∙ sym (append-nil (entries_of old.receipts))
+
+pub opening_adds : {S : Type 0} (backend : BackendParts) (old new : PassView Entry) (server : ℕ) (result : Result (Opening S) Refusal)
+    → IfOk result (λ opening. AddsStep backend old (Open server) (opening_reply opening) new) → OnErr result (new ≡ old)
+    → entries_of new.receipts ≡ entries_of old.receipts ++ opening_entries server result
+opening_adds backend old new server (Ok opening) step err = step_adds backend old new (Open server) (opening_reply opening) step
+opening_adds backend old new server (Err refused) step err = none_added old new err
+
+pub shutting_adds : (backend : BackendParts) (old new : PassView Entry) (server : ℕ) (result : Result Shut Refusal)
+    → IfOk result (λ shut. AddsStep backend old (Close server) (shut_reply shut) new) → OnErr result (new ≡ old)
+    → entries_of new.receipts ≡ entries_of old.receipts ++ shutting_entries server result
+shutting_adds backend old new server (Ok shut) step err = step_adds backend old new (Close server) (shut_reply shut) step
+shutting_adds backend old new server (Err refused) step err = none_added old new err
+
+pub plan_adds : (backend : BackendParts) (old new : PassView Entry) (result : Result Score Refusal)
+    → IfOk result (λ score. AddsPlan backend old score new) → OnErr result (new ≡ old)
+    → PlansNow (entries_of old.receipts) (entries_of new.receipts) result
+plan_adds backend old new (Ok score) plan err =
+    let first : Entry = entry Snapshot (Sheet plan.sheet) in
+    let second : Entry = entry (Install plan.plan) (Installed score) in (
+      plan.sheet,
+      plan.plan,
+      plan.fit,
+      step_adds backend plan.between new (Install plan.plan) (Installed score) plan.install
+          ∙ ap (λ (es : List Entry). es ++ second ∷ []) (step_adds backend old plan.between Snapshot (Sheet plan.sheet) plan.snapshot)
+          ∙ append_assoc (entries_of old.receipts) (first ∷ []) (second ∷ []),
+    )
+plan_adds backend old new (Err refused) plan err = ap (λ (p : PassView Entry). entries_of p.receipts) err
+
+-- ---- the two events of a request for a server
 
 does_expire : (old : State) (now : ℕ) (reply : Reply) (new : State) → Does old (Expire now) reply new → (count : ℕ) × (reply ≡ Expired count)
 does_expire old now (Expired count) new d = (count, refl)

@@ -1,19 +1,22 @@
 -- The desk stands at the keeper's history, behind each call.
-use Rattle.std.proofs.Common.{◌≡◌, ℕ, Bool, true, false, nat_lt, List, [], ◌∷◌, ◌++◌, length, Option, Some, None, if◌then◌else◌, refl, sym, ap, ◌∙◌, arith}
+use Rattle.std.proofs.Common.{◌≡◌, ℕ, ◌+◌, Bool, true, false, nat_lt, List, [], ◌∷◌, ◌++◌, length, Option, Some, None, if◌then◌else◌, refl, sym, ap, ◌∙◌, subst, arith, length-append}
 use Rattle.std.proofs.lemmas.Bool.Decides.{nat_tests}
 use Rattle.std.specs.Option.{unwrap_or}
 use Rattle.lb_desk_model.specs.declared.entry.Entry.{Entry}
 use Rattle.lb_desk_model.specs.declared.event.Event.{Event}
+use Rattle.lb_desk_model.specs.declared.event.Event.TheVariants.{Snapshot, Install}
 use Rattle.lb_desk_model.specs.declared.reply.Reply.{Reply}
+use Rattle.lb_desk_model.specs.declared.reply.Reply.TheVariants.{Sheet, Installed}
 use Rattle.lb_desk_model.specs.Backends.{BackendParts}
 use Rattle.lb_desk_model.specs.Worn.{open_connections}
+use Rattle.lb_desk_ports.specs.Calls.{entry}
 use Rattle.lb_desk_step.specs.declared.taken.TakenPlan.{TakenPlan}
 use Rattle.lb_desk_step.specs.Desk.{DeskView, KeepsHeadline, StandsAt, Takes}
 use Rattle.lb_desk_step.specs.Planning.{TakesPlan}
-use Rattle.lb_desk_tie.specs.Receipts.{PassView, Shares, receipts_of}
+use Rattle.lb_desk_tie.specs.Receipts.{IsSound, PassView, Shares, receipts_of, with_receipt}
 use Rattle.lb_desk_shared.specs.declared.closing.CloseFault.{CloseFault}
 use Rattle.lb_desk_shared.specs.declared.closing.CloseFault.TheVariants.{PassesOut, SlotsOut}
-use Rattle.lb_desk_shared.specs.Calls.{IsStepAt}
+use Rattle.lb_desk_shared.specs.Calls.{AddsPlan, IsStepAt}
 use Rattle.lb_desk_shared.specs.Closing.{Closes, fault_of}
 use Rattle.lb_desk_shared.specs.Desks.{TiedView}
 
@@ -21,11 +24,21 @@ pub some_same : {A : Type 0} (x y : A) → Some x ≡ Some y → x ≡ y
 some_same x y is = ap (λ o. unwrap_or o x) is
 
 -- the event is the next step of the history that the desk stands at
-pub is_step : (backend : BackendParts) (history : List Entry) (old new : DeskView) (number : ℕ) (event : Event) (reply : Reply)
-    → StandsAt backend history old → Takes old event reply new → number ≡ length history → IsStepAt backend number event reply
-is_step backend history old new number event reply at takes is =
+pub is_step : (backend : BackendParts) (history : List Entry) (receipts : List (ℕ × Entry)) (old new : DeskView) (number : ℕ) (event : Event) (reply : Reply)
+    → StandsAt backend history old → IsSound history receipts → Takes old event reply new → number ≡ length history
+    → IsStepAt backend receipts number event reply
+is_step backend history receipts old new number event reply at sound takes is =
     let next = takes.steps at.reaches.state at.reaches.is in
-    record { history = history; counted = sym is; old = at.reaches.state; before = at.reaches.history; new = next.next; step = next.step }
+    record {
+      history = history;
+      counted = sym is;
+      stand = sound.0;
+      rise = sound.1;
+      old = at.reaches.state;
+      before = at.reaches.history;
+      new = next.next;
+      step = next.step;
+    }
 
 -- behind two events in one go it stands at the history with both entries
 pub stands_by_plan : (backend : BackendParts) (history : List Entry) (old new : DeskView) (taken : TakenPlan)
@@ -34,6 +47,36 @@ pub stands_by_plan : (backend : BackendParts) (history : List Entry) (old new : 
 stands_by_plan backend history old new taken at takes =
     let first = takes.plans.snapshot.log backend history at in
     rw (takes.first, takes.second) (takes.plans.install.log backend _ first)
+
+-- the receipts of both events, each of which is the next step
+pub adds_plan : (backend : BackendParts) (history : List Entry) (old between new : PassView Entry) (was now : DeskView) (taken : TakenPlan) (one two : ℕ)
+    → StandsAt backend history was → TakesPlan was taken now → one ≡ length history → two ≡ length (history ++ taken.snapshot ∷ [])
+    → IsSound history old.receipts → between ≡ with_receipt old (one, taken.snapshot)
+    → IsSound (history ++ taken.snapshot ∷ []) between.receipts → new ≡ with_receipt between (two, taken.install)
+    → AddsPlan backend old taken.score new
+adds_plan backend history old between new was now taken one two at takes is_one is_two sound first still second =
+    let sheet : Entry = entry Snapshot (Sheet takes.plans.sheet) in
+    let longer : StandsAt backend (history ++ sheet ∷ []) takes.plans.between = takes.plans.snapshot.log backend history at in
+    let number : two ≡ length (history ++ sheet ∷ []) = is_two ∙ ap (λ (e : Entry). length (history ++ e ∷ [])) takes.first in
+    record {
+      sheet = takes.plans.sheet;
+      plan = takes.plans.plan;
+      fit = takes.plans.plans.fit;
+      between = between;
+      snapshot = record {
+        number = one;
+        receipt = first ∙ ap (λ (e : Entry). with_receipt old (one, e)) takes.first;
+        step = is_step backend history old.receipts was takes.plans.between one Snapshot (Sheet takes.plans.sheet) at sound takes.plans.snapshot is_one;
+      };
+      install = record {
+        number = two;
+        receipt = second ∙ ap (λ (e : Entry). with_receipt between (two, e)) takes.second;
+        step =
+            is_step backend (history ++ sheet ∷ []) between.receipts takes.plans.between now two (Install takes.plans.plan) (Installed taken.score)
+            longer (subst (λ (e : Entry). IsSound (history ++ e ∷ []) between.receipts) takes.first still) takes.plans.install number;
+      };
+      at_once = omega (arith, length-append history (taken.snapshot ∷ []));
+    }
 
 abbrev fault_by : Bool → Bool → Option CloseFault
 fault_by a b = if a then Some PassesOut else (if b then Some SlotsOut else None)

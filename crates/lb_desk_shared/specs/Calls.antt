@@ -1,5 +1,5 @@
 -- What a call on a desk of many threads leaves in the caller's pass. Our own words.
-use Rattle.std.specs.Prelude.{◌≡◌, ℕ, List, [], ◌∷◌, ◌++◌, map, length, Result, Ok, Err}
+use Rattle.std.specs.Prelude.{◌≡◌, ℕ, ◌+◌, true, List, [], ◌∷◌, ◌++◌, map, length}
 use Rattle.pin_set.specs.declared.totals.Score.{Score}
 use Rattle.dual_cert_plan.specs.Plans.{PlanParts}
 use Rattle.dual_cert_plan.specs.Sheets.{SheetParts}
@@ -14,14 +14,16 @@ use Rattle.lb_desk_model.specs.States.{State, opening}
 use Rattle.lb_desk_model.specs.Steps.{Step}
 use Rattle.lb_desk_ports.specs.Calls.{entry}
 use Rattle.lb_desk_ports.specs.Movers.{IsPlanFor}
-use Rattle.lb_desk_ports.specs.declared.refused.Refused.{Refused}
-use Rattle.lb_desk_tie.specs.Receipts.{PassView}
+use Rattle.lb_desk_tie.specs.Receipts.{Each, PassView, StandsIn, rises, with_receipt}
 
--- A history of the backend, from its opening on, has as many entries as the number says, and the event with this reply is its
--- next step
-pub record IsStepAt (backend : BackendParts) (number : ℕ) (event : Event) (reply : Reply) : Type 0 where
+-- A history of the backend, from its opening on, has as many entries as the number says, the receipts that the caller had stand
+-- in it, and the event with this reply is its next step
+pub record IsStepAt (backend : BackendParts) (receipts : List (ℕ × Entry)) (number : ℕ) (event : Event) (reply : Reply) : Type 0 where
   pub history : List Entry
   pub counted : length history ≡ number
+  -- each receipt's entry stands at its number, and a later receipt has a greater one
+  pub stand : Each (StandsIn history) receipts
+  pub rise : rises receipts ≡ true
   pub old : State
   pub before : History (opening backend) history old
   pub new : State
@@ -31,16 +33,19 @@ pub record IsStepAt (backend : BackendParts) (number : ℕ) (event : Event) (rep
 abbrev pub entries_of : List (ℕ × Entry) → List Entry
 entries_of receipts = map (λ (receipt : ℕ × Entry). receipt.1) receipts
 
--- the pass has a receipt more for each of the entries, in their order, behind those that it had
-pub record Receives (old : PassView Entry) (entries : List Entry) (new : PassView Entry) : Type 0 where
-  pub keeper : new.keeper ≡ old.keeper
-  pub added : List (ℕ × Entry)
-  pub receipts : new.receipts ≡ old.receipts ++ added
-  pub are : entries_of added ≡ entries
+-- the pass has a receipt more, of the event with this reply, which is the next step of a history that the others stand in
+pub record AddsStep (backend : BackendParts) (old : PassView Entry) (event : Event) (reply : Reply) (new : PassView Entry) : Type 0 where
+  pub number : ℕ
+  pub receipt : new ≡ with_receipt old (number, entry event reply)
+  pub step : IsStepAt backend old.receipts number event reply
 
--- Planning while all others wait adds two receipts: that of a sheet, and that of a plan for it, which was installed
-abbrev pub ReceivesPlan : PassView Entry → PassView Entry → Result Score Refused → Type 0
-ReceivesPlan old new (Ok score) =
-    (sheet : SheetParts) × (plan : PlanParts) × IsPlanFor sheet plan
-    × Receives old (entry Snapshot (Sheet sheet) ∷ entry (Install plan) (Installed score) ∷ []) new
-ReceivesPlan old new (Err refused) = new ≡ old
+-- Planning while all others wait adds two receipts, and no other event comes between them: that of a sheet, and that of a plan
+-- for it, which was installed
+pub record AddsPlan (backend : BackendParts) (old : PassView Entry) (score : Score) (new : PassView Entry) : Type 0 where
+  pub sheet : SheetParts
+  pub plan : PlanParts
+  pub fit : IsPlanFor sheet plan
+  pub between : PassView Entry
+  pub snapshot : AddsStep backend old Snapshot (Sheet sheet) between
+  pub install : AddsStep backend between (Install plan) (Installed score) new
+  pub at_once : install.number ≡ snapshot.number + 1

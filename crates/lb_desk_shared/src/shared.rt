@@ -1,10 +1,11 @@
 ghost use Rattle.std.specs.Prelude.{◌≡◌, [], IfOk, IfErr, OnErr};
 ghost use Rattle.std.specs.Sync.Mutex.{mutex_guard_value};
 ghost use Rattle.lb_desk_ports.specs.Calls.{entry};
-ghost use Rattle.lb_desk_ports.specs.Ports.{IfOpened, opening_entries, shutting_entries};
-ghost use Rattle.lb_desk_shared.specs.Calls.{IsStepAt, Receives, ReceivesPlan};
+ghost use Rattle.lb_desk_ports.specs.Ports.{IfOpened, opening_reply, shut_reply};
+ghost use Rattle.lb_desk_shared.specs.Calls.{AddsPlan, AddsStep, IsStepAt};
 ghost use Rattle.lb_desk_shared.specs.Closing.{Closes};
 ghost use Rattle.lb_desk_shared.specs.Desks.{HasJournal, HasPins};
+ghost use Rattle.lb_desk_model.specs.declared.event.Event.TheVariants as event;
 ghost use Rattle.lb_desk_step.specs.Desk.{StandsAt};
 ghost use Rattle.lb_desk_tie.specs.Receipts.{AreOf, new_pass, with_receipt};
 
@@ -87,7 +88,8 @@ impl<S: BuildHasher, B: Naming> SharedDesk<S, B> {
         requires { pass.old.keeper ≡ self.now }
         ensures receipt { IfOk result
             (λ told. pass.new ≡ with_receipt pass.old (told.number, entry event told.reply)) }
-        ensures step { IfOk result (λ told. IsStepAt (B.opening self.now) told.number event told.reply) }
+        ensures step { IfOk result
+            (λ told. IsStepAt (B.opening self.now) pass.old.receipts told.number event told.reply) }
         ensures err { OnErr result (pass.new ≡ pass.old) }
     {
         let mut held = self.hold(rt)?;
@@ -109,7 +111,7 @@ impl<S: BuildHasher, B: Naming> SharedDesk<S, B> {
         ensures receipt { IfOk result (λ receipt. pass.new ≡ with_receipt pass.old receipt) }
         ensures event { IfOk result (λ receipt. receipt.1.event ≡ event) }
         ensures step { IfOk result
-            (λ receipt. IsStepAt (B.opening self.now) receipt.0 event receipt.1.reply) }
+            (λ receipt. IsStepAt (B.opening self.now) pass.old.receipts receipt.0 event receipt.1.reply) }
         ensures err { OnErr result (pass.new ≡ pass.old) }
     {
         let copy = event.clone()?;
@@ -127,7 +129,9 @@ impl<S: BuildHasher, B: Naming> SharedDesk<S, B> {
         server: ServerId,
     ) -> Result<Opening<Slot>, Refused>
         requires { pass.old.keeper ≡ self.now }
-        ensures receipt { Receives pass.old (opening_entries server result) pass.new }
+        ensures step { IfOk result
+            (λ opening. AddsStep (B.opening self.now) pass.old (event.Open server) (opening_reply opening) pass.new) }
+        ensures err { OnErr result (pass.new ≡ pass.old) }
         ensures desk { IfOpened result (λ slot. slot.desk ≡ self.now) }
         ensures server { IfOpened result (λ slot. slot.server ≡ server) }
     {
@@ -149,7 +153,9 @@ impl<S: BuildHasher, B: Naming> SharedDesk<S, B> {
     ) -> Result<Shut, Refused>
         requires pass { pass.old.keeper ≡ self.now }
         requires slot { slot.desk ≡ self.now }
-        ensures { Receives pass.old (shutting_entries slot.server result) pass.new }
+        ensures step { IfOk result
+            (λ shut. AddsStep (B.opening self.now) pass.old (event.Close slot.server) (shut_reply shut) pass.new) }
+        ensures err { OnErr result (pass.new ≡ pass.old) }
     {
         let Slot { desk: _, server } = slot;
         let told = self.tell(rt, pass, Event::Close(server))?;
@@ -165,7 +171,8 @@ impl<S: BuildHasher, B: Naming> SharedDesk<S, B> {
     /// Refused when out of memory, and as `Worn` (81) where the second of the two events would be; then nothing has changed.
     pub fn plan_now<R: Wait>(&self, rt: &R, pass: &mut Pass<Entry, B>) -> Result<Score, Refused>
         requires { pass.old.keeper ≡ self.now }
-        ensures { ReceivesPlan pass.old pass.new result }
+        ensures plan { IfOk result (λ score. AddsPlan (B.opening self.now) pass.old score pass.new) }
+        ensures err { OnErr result (pass.new ≡ pass.old) }
     {
         let mut held = self.hold(rt)?;
         let taken = held.plan_now(pass)?;

@@ -1,6 +1,6 @@
 ghost use Rattle.std.specs.Prelude.{◌≡◌, ◌+◌, ◌<◌, ◌^◌, ◌≤◌, ◌↔◌, true, [], None, Some, length, vec_len, IfOk, IfErr, OnErr, IsErr, IsErrOf};
 ghost use Rattle.lb_desk_ports.specs.Calls.{entry};
-ghost use Rattle.lb_desk_shared.specs.Calls.{IsStepAt};
+ghost use Rattle.lb_desk_shared.specs.Calls.{AddsPlan, IsStepAt};
 ghost use Rattle.lb_desk_shared.specs.Closing.{Closes, fault_of};
 ghost use Rattle.lb_desk_shared.specs.Desks.{HasJournal, HasPins};
 ghost use Rattle.lb_desk_step.specs.Desk.{StandsAt, Takes, is_worn_for, may_take_memory};
@@ -91,6 +91,7 @@ impl<S: BuildHasher, B: Naming> TiedDesk<S, B> {
         ensures step { IfOk result
             (λ answer. IsStepAt
             (B.opening self.old.keeper.number)
+            pass.old.receipts
             answer.0.number
             event
             answer.0.reply) }
@@ -123,6 +124,8 @@ impl<S: BuildHasher, B: Naming> TiedDesk<S, B> {
             pass.old
             (length self.old.keeper.history, taken.snapshot))
             (length self.old.keeper.history + 1, taken.install)) }
+        ensures plan { IfOk result
+            (λ taken. AddsPlan (B.opening self.old.keeper.number) pass.old taken.score pass.new) }
 
         // Where it is refused.
         ensures worn { IsErrOf result Refused.Worn ↔ (is_worn_for_two self.old.desk ≡ true) }

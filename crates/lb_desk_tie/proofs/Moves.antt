@@ -8,8 +8,8 @@ use prog.Atomic.{either}
 use Rattle.atomic_table.specs.Table.{Me, step, keeps, Allows, Splits, Joins, opening}
 use Rattle.atomic_table.proofs.Lists.{at_set, at_snoc, set_again, exchanged}
 use Rattle.lb_desk_tie.specs.declared.view.View.{View}
-use Rattle.lb_desk_tie.specs.Receipts.{Each, total, one_if_same, one_if_below, rises, times, times_in, count_in}
-use Rattle.lb_desk_tie.specs.Rule.{keeper_view, pass_view, spent_view, list_of, one_pass_more, in_hand, hand_back, first_pass, counted_view, Counts, Settles, IsSound, Fits, Kept, next_from}
+use Rattle.lb_desk_tie.specs.Receipts.{Each, total, one_if_same, one_if_below, rises, times, times_in, count_in, IsSound}
+use Rattle.lb_desk_tie.specs.Rule.{keeper_view, pass_view, spent_view, list_of, one_pass_more, in_hand, hand_back, first_pass, counted_view, AreSound, Counts, Looks, Fits, Kept, next_from}
 use Rattle.lb_desk_tie.proofs.Sums.{total-append, total-set, total_of_none, total_alone, Each-append, length-push, one_if_below-next, times-push, sounds_longer, sound_push, sounds_stand, sounds_rise, next_from-push, rises_from-push}
 
 off : false ≡ true → ⊥
@@ -118,6 +118,10 @@ module _ {E : Type 0} where
             (at_snoc (set s.views id left) (pass_view list) u j e);
       }
 
+  -- lists that are sound in the history of the rule are so in the keeper's, which is the same
+  sound_here : (kept history : List E) (lists : List (List (ℕ × E))) → history ≡ kept → Each (IsSound kept) lists → Each (IsSound history) lists
+  sound_here kept history lists is sound = subst (λ (l : List E). Each (IsSound l) lists) (sym is) sound
+
   counts : (slots id : ℕ) (history : List E) (passes : ℕ) (list : List (ℕ × E)) (lists : List (List (ℕ × E))) (number : ℕ) (entry : E) → number ≡ length history
       → Allows Kept slots id (keeper_view history passes (list ∷ lists), []) 0 (λ n. either (n == number) (number + 1) n) (Counts (step slots 0 number (number + 1) (some entry)) (keeper_view history passes (list ∷ lists), []))
   counts slots id history passes list lists number entry is s kept homes at small =
@@ -158,17 +162,17 @@ module _ {E : Type 0} where
                 sound = (sound_push kept.history entry list found long_as was.sound.0, sounds_longer kept.history (entry ∷ []) lists was.sound.1);
               });
         },
-        (here, refl),
+        (here, refl, sound_here kept.history history (list ∷ lists) mine.1 was.sound),
       )
 
-  settles : (slots id : ℕ) (history : List E) (passes : ℕ) (lists : List (List (ℕ × E)))
-      → Allows Kept slots id (keeper_view history passes lists, []) 0 (λ n. n) (Settles (step slots 0 0 0 none) (keeper_view history passes lists, []))
-  settles slots id history passes lists s kept homes at small =
+  looks : (slots id : ℕ) (history : List E) (passes : ℕ) (lists : List (List (ℕ × E)))
+      → Allows Kept slots id (keeper_view history passes lists, []) 0 (λ n. n) (Looks (step slots 0 0 0 none) (keeper_view history passes lists, []))
+  looks slots id history passes lists s kept homes at small =
       let v : View E = keeper_view history passes lists in
       let was = kept.fits id v at in
       let mine = was.keeper refl in
       let same : set s.views id v ≡ s.views = set_again s.views id v at in
-      let sound : Each (IsSound history) lists = subst (λ (l : List E). Each (IsSound l) lists) (sym mine.1) was.sound in (
+      let sound : Each (IsSound history) lists = sound_here kept.history history lists mine.1 was.sound in (
         v,
         keeps,
         tt,
@@ -184,6 +188,7 @@ module _ {E : Type 0} where
         },
         (
           refl,
+          sound,
           λ all.
               let given = kept.given in
               let as_many : passes ≡ kept.passes = mine.2 in
@@ -222,9 +227,9 @@ module _ {E : Type 0} where
       subst (λ (m : Me E (View E)). Allows Kept slots id m 0 (λ n. either (n == number) (number + 1) n) (Counts (step slots 0 number (number + 1) (some entry)) m)) (sym is)
       (counts slots id history passes list lists number entry length_is)
 
-  pub settles_as : (slots id : ℕ) (me : Me E (View E)) (history : List E) (passes : ℕ) (lists : List (List (ℕ × E))) → me ≡ (keeper_view history passes lists, [])
-      → Allows Kept slots id me 0 (λ n. n) (Settles (step slots 0 0 0 none) me)
-  settles_as slots id me history passes lists is = subst (λ (m : Me E (View E)). Allows Kept slots id m 0 (λ n. n) (Settles (step slots 0 0 0 none) m)) (sym is) (settles slots id history passes lists)
+  pub looks_as : (slots id : ℕ) (me : Me E (View E)) (history : List E) (passes : ℕ) (lists : List (List (ℕ × E))) → me ≡ (keeper_view history passes lists, [])
+      → Allows Kept slots id me 0 (λ n. n) (Looks (step slots 0 0 0 none) me)
+  looks_as slots id me history passes lists is = subst (λ (m : Me E (View E)). Allows Kept slots id m 0 (λ n. n) (Looks (step slots 0 0 0 none) m)) (sym is) (looks slots id history passes lists)
 
   -- what a count tells, at a view that is known
   pub counted_is : (slots : ℕ) (me after : Me E (View E)) (history : List E) (passes : ℕ) (list : List (ℕ × E)) (lists : List (List (ℕ × E))) (number found : ℕ) (entry : E)
@@ -232,6 +237,11 @@ module _ {E : Type 0} where
       → after ≡ (keeper_view (history ++ entry ∷ []) passes ((list ++ (number, entry) ∷ []) ∷ lists), [])
   counted_is slots me after history passes list lists number found entry is told =
       told.1 ∙ (λ i. (counted_view (some entry) (told.0 i) (is i).0, (is i).1))
+
+  -- and that the one list in hand was sound, which a look tells too
+  pub sound_is : (me : Me E (View E)) (history : List E) (passes : ℕ) (list : List (ℕ × E)) → me ≡ (keeper_view history passes (list ∷ []), [])
+      → AreSound me.0 → IsSound history list
+  sound_is me history passes list is sound = (subst (λ (m : Me E (View E)). AreSound m.0) is sound).0
 
   -- the view of the badge of a pass
   pub pass_is : (views : List (View E)) (w : View E) → views ≡ w ∷ [] → views ≡ pass_view (list_of views) ∷ [] → w ≡ pass_view (list_of views)

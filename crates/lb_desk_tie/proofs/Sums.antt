@@ -5,8 +5,8 @@ use Rattle.std.proofs.lemmas.Bool.{and_from, le-leb}
 use Rattle.std.proofs.lemmas.Bool.Decides.{nat_tests}
 use mathlib.Core.Option.{some, some-ne-none, some-injective}
 use lib.ListN.{get_elem?}
-use Rattle.lb_desk_tie.specs.Receipts.{Each, total, one_if_same, one_if_below, StandsIn, rises_from, rises, all_rise, times}
-use Rattle.lb_desk_tie.specs.Rule.{IsSound, next_from}
+use Rattle.lb_desk_tie.specs.Receipts.{Each, total, one_if_same, one_if_below, StandsIn, rises_from, rises, all_rise, times, IsSound}
+use Rattle.lb_desk_tie.specs.Rule.{next_from}
 
 module _ {A : Type 0} where
   pub total-append : (f : A → ℕ) (xs ys : List A) → total f (xs ++ ys) ≡ total f xs + total f ys

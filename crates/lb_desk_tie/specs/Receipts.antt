@@ -79,6 +79,10 @@ module _ {E : Type 0} where
   abbrev pub rises : List (ℕ × E) → Bool
   rises receipts = rises_from 0 receipts
 
+  -- the receipts stand in the history, and a later one has a greater number
+  abbrev pub IsSound : List E → List (ℕ × E) → Type 0
+  IsSound history receipts = Each (StandsIn history) receipts × (rises receipts ≡ true)
+
   abbrev pub all_rise : List (List (ℕ × E)) → Bool
   all_rise [] = true
   all_rise (list ∷ lists) = rises list && all_rise lists

@@ -6,7 +6,7 @@ use lib.ListN.{get_elem?}
 use Rattle.atomic_table.specs.Table.{State, Me, Step}
 use Rattle.atomic_table.specs.Seated.{TableId}
 use Rattle.lb_desk_tie.specs.declared.view.View.{View}
-use Rattle.lb_desk_tie.specs.Receipts.{Each, total, one_if_below, StandsIn, rises, times_in, count_in, Shares}
+use Rattle.lb_desk_tie.specs.Receipts.{Each, total, one_if_below, IsSound, times_in, count_in, Shares}
 
 -- the name of no table
 abbrev pub no_table : TableId
@@ -62,18 +62,20 @@ module _ {E : Type 0} where
   counted_view none number v = v
   counted_view (some entry) number v = keeper_view (v.history ++ entry ∷ []) v.passes (with_first (number, entry) v.lists)
 
-  -- the word was the number expected, and the entry was counted
+  -- what the keeper knows of its own history, of each list in hand
+  abbrev pub AreSound : View E → Type 0
+  AreSound v = Each (IsSound v.history) v.lists
+
+  -- the word was the number expected, and the entry was counted; the lists in hand were sound before it
   abbrev pub Counts : Step E → Me E (View E) → ℕ → Me E (View E) → Type 0
-  Counts s before found after = (found ≡ s.first) × (after ≡ (counted_view s.said found before.0, before.1))
+  Counts s before found after =
+      (found ≡ s.first) × (after ≡ (counted_view s.said found before.0, before.1)) × AreSound before.0
 
-  -- nothing changed; where there are at least as many lists in hand as passes, they share out the history
-  abbrev pub Settles : Step E → Me E (View E) → ℕ → Me E (View E) → Type 0
-  Settles s before found after =
-      (after ≡ before) × (before.0.passes ≤ length before.0.lists → (length before.0.lists ≡ before.0.passes) × Shares before.0.history before.0.lists)
-
-  -- the receipts stand in the history, and their numbers rise
-  abbrev pub IsSound : List E → List (ℕ × E) → Type 0
-  IsSound history list = Each (StandsIn history) list × (rises list ≡ true)
+  -- nothing changed, and the lists in hand are sound; where there are at least as many as passes, they share out the history
+  abbrev pub Looks : Step E → Me E (View E) → ℕ → Me E (View E) → Type 0
+  Looks s before found after =
+      (after ≡ before) × AreSound before.0
+      × (before.0.passes ≤ length before.0.lists → (length before.0.lists ≡ before.0.passes) × Shares before.0.history before.0.lists)
 
 -- what the rule says of the view of one seat
 pub record Fits {E : Type 0} (seat : ℕ) (history : List E) (passes by : ℕ) (v : View E) : Type 0 where

@@ -1,5 +1,5 @@
 ghost use Rattle.std.specs.Prelude.{◌≡◌, ◌+◌, ◌^◌, ◌<◌, ◌≤◌, true, [], ◌∷◌, ◌++◌, length, vec_len};
-ghost use Rattle.lb_desk_tie.specs.Receipts.{KeeperView, PassView, new_keeper, with_entry, with_pass, new_pass, with_receipt, receipts_of, AreOf, Shares};
+ghost use Rattle.lb_desk_tie.specs.Receipts.{KeeperView, PassView, IsSound, new_keeper, with_entry, with_pass, new_pass, with_receipt, receipts_of, AreOf, Shares};
 ghost use Rattle.lb_desk_tie.specs.Rule.{keeper_view};
 
 use crate::pass::Pass;
@@ -87,18 +87,30 @@ impl<E: Drop, B: Tables> Keeper<E, B> {
         Pass::of(self.number, badge)
     }
 
-    /// Records an entry of the pass's caller, and answers its number in the history.
+    /// Records an entry of the pass's caller, and answers its number in the history. All receipts that the pass had are in the
+    /// history before that entry.
     pub fn record(&mut self, pass: &mut Pass<E, B>, entry: &E) -> u64
         requires keeper { pass.old.keeper ≡ self.old.number }
         requires room { length self.old.history + 1 < 2 ^ 64 }
         ensures number { result ≡ length self.old.history }
         ensures keeper { self.new ≡ with_entry self.old entry.now }
         ensures pass { pass.new ≡ with_receipt pass.old (result, entry.now) }
+        ensures sound { IsSound self.old.history pass.old.receipts }
     {
         let number = self.count;
         pass.add(&self.word, &mut self.seat, number, entry);
         self.count = number + 1;
         number
+    }
+
+    /// Changes nothing: what it says is that the receipts of the pass are in the history as it is now.
+    pub fn confirm(&mut self, pass: &mut Pass<E, B>)
+        requires { pass.old.keeper ≡ self.old.number }
+        ensures keeper { self.new ≡ self.old }
+        ensures pass { pass.new ≡ pass.old }
+        ensures sound { IsSound self.old.history pass.old.receipts }
+    {
+        pass.confirm(&self.word, &mut self.seat);
     }
 
     /// Takes all passes back. Their receipts share out the history; and it answers that in each pass a later call has a

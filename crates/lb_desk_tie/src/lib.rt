@@ -5,9 +5,9 @@
 //! which keeps the receipts of its calls. `Keeper::settle` takes all passes back, and shows that their receipts share
 //! out the history.
 //!
-//! Promised: `Keeper::record` adds the entry to the history and its receipt to the pass, and `Keeper::settle`'s `share`.
-//! No history, entry or receipt exists at run time. Start at `Keeper`; the words are in `specs/Receipts.antt`. Private to
-//! `lb_desk_shared`, the desk of many threads.
+//! Promised: `Keeper::record` adds the entry to the history and its receipt to the pass, whose receipts are all in the history
+//! before it (`sound`), and `Keeper::settle`'s `share`. No history, entry or receipt exists at run time. Start at `Keeper`; the
+//! words are in `specs/Receipts.antt`. Private to `lb_desk_shared`, the desk of many threads.
 #![tactic(auto)]
 
 mod keeper;

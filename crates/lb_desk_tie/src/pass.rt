@@ -1,5 +1,5 @@
 ghost use Rattle.std.specs.Prelude.{◌≡◌, ◌+◌, ◌^◌, ◌<◌, [], ◌∷◌, ◌++◌, length};
-ghost use Rattle.lb_desk_tie.specs.Receipts.{PassView, new_pass, with_receipt, rises};
+ghost use Rattle.lb_desk_tie.specs.Receipts.{PassView, IsSound, new_pass, with_receipt, rises};
 ghost use Rattle.lb_desk_tie.specs.Rule.{keeper_view, pass_view};
 
 use crate::steps;
@@ -61,7 +61,8 @@ impl<E, B: Tables> Pass<E, B> {
         self.keeper
     }
 
-    /// The receipt of an entry goes to the end of the pass, and the entry to the end of the history.
+    /// The receipt of an entry goes to the end of the pass, and the entry to the end of the history. The receipts before it are
+    /// in the history before it.
     pub(crate) fn add(&mut self, word: &Word<E>, seat: &mut KeeperSeat<E>, number: u64, entry: &E)
         requires table { seat.old.table_id ≡ B.table_of self.old.keeper }
         requires word { seat.old.table_id ≡ word.now.shared.table_id }
@@ -73,11 +74,27 @@ impl<E, B: Tables> Pass<E, B> {
         ensures keeper { seat.new.me
             ≡ (keeper_view (seat.old.me.0.history ++ entry.now ∷ []) seat.old.me.0.passes [], []) }
         ensures pass { self.new ≡ with_receipt self.old (number, entry.now) }
+        ensures sound { IsSound seat.old.me.0.history self.old.receipts }
     {
         let badge = mem::replace(&mut self.badge, Badge::blank());
         self.badge = steps::tell(word, seat, badge, number, entry);
         self.rising = self.rising & (self.next <= number);
         self.next = number + 1;
+    }
+
+    /// The receipts are in the history, and nothing changes.
+    pub(crate) fn confirm(&mut self, word: &Word<E>, seat: &mut KeeperSeat<E>)
+        requires table { seat.old.table_id ≡ B.table_of self.old.keeper }
+        requires word { seat.old.table_id ≡ word.now.shared.table_id }
+        requires one_word { word.now.shared.table_id.words ≡ 1 }
+        requires keeper { seat.old.me ≡ (keeper_view seat.old.me.0.history seat.old.me.0.passes [], []) }
+        ensures table { seat.new.table_id ≡ seat.old.table_id }
+        ensures keeper { seat.new.me ≡ seat.old.me }
+        ensures pass { self.new ≡ self.old }
+        ensures sound { IsSound seat.old.me.0.history self.old.receipts }
+    {
+        let badge = mem::replace(&mut self.badge, Badge::blank());
+        self.badge = steps::look(word, seat, badge);
     }
 
     /// Gives the pass back to its keeper, and returns whether its numbers rise.

@@ -66,13 +66,13 @@ impl<E> Play<E, View<E>> for Count {
     ghost then = { Counts };
 }
 
-/// The keeper looks at the history with all lists in hand.
-pub(crate) struct Settle;
+/// The keeper looks at the history with the lists that it has in hand.
+pub(crate) struct Look;
 
-impl<E> Play<E, View<E>> for Settle {
-    ghost use Rattle.lb_desk_tie.specs.Rule.{Settles};
+impl<E> Play<E, View<E>> for Look {
+    ghost use Rattle.lb_desk_tie.specs.Rule.{Looks};
 
-    ghost then = { Settles };
+    ghost then = { Looks };
 }
 
 pub(crate) type Word<E> = Table<E, View<E>, (), Law, Global>;

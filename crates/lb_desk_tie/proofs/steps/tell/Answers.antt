@@ -1,6 +1,6 @@
 use Rattle.std.proofs.Common.{[], ◌∷◌, ◌++◌, ap, ◌∙◌, arith}
 use Rattle.lb_desk_tie.specs.Rule.{pass_view, list_of, hand_back, first_pass}
-use Rattle.lb_desk_tie.proofs.Moves.{joins, handed_is, pass_is, counts_as, counted_is, cuts_as}
+use Rattle.lb_desk_tie.proofs.Moves.{joins, handed_is, pass_is, counts_as, counted_is, cuts_as, sound_is}
 use Rattle.lb_desk_tie.proofs.steps.tell.Goals as goal
 
 pub into_seat-requires : goal.into_seat-requires
@@ -44,3 +44,10 @@ returns-clause-pass g c =
     let joined = c.join_seat.ensures.2 ∙ handed_is c.args.seat.now.me c.into_seat.result.me.0 old.history old.passes [] list c.requires.keeper (pass_is c.args.pass.views c.into_seat.result.me.0 c.into_seat.ensures.2 c.requires.pass) in
     let counted = counted_is 0 c.join_seat.new.seat.me c.compare_exchange_with.new.seat.me old.history old.passes list [] c.args.number c.compare_exchange_with.result c.args.entry.now joined c.compare_exchange_with.ensures.2 in
     c.into_badge.ensures.2 ∙ ap (λ m. m.0 ∷ []) c.split_seat.ensures.4 ∙ ap (λ m. first_pass m.0 ∷ []) counted
+
+pub returns-clause-sound : goal.returns-clause-sound
+returns-clause-sound g c =
+    let old = c.args.seat.now.me.0 in
+    let list = list_of c.args.pass.views in
+    let joined = c.join_seat.ensures.2 ∙ handed_is c.args.seat.now.me c.into_seat.result.me.0 old.history old.passes [] list c.requires.keeper (pass_is c.args.pass.views c.into_seat.result.me.0 c.into_seat.ensures.2 c.requires.pass) in
+    sound_is c.join_seat.new.seat.me old.history old.passes list joined c.compare_exchange_with.ensures.2.2

@@ -22,5 +22,6 @@ invariant_of-self-2 g c =
 pub returns-clause-step : goal.returns-clause-step
 returns-clause-step g c =
     let p = c.self.inside in
-    rw (← c.self.view_is) (is_step (g.B.Naming.opening p.keeper.number) p.keeper.history p.desk c.advance.new.self c.record-number.result c.args.event c.in_ok-reply.field-0.reply
-    c.self.invariant c.in_ok-reply.ensures.takes c.record-number.ensures.number)
+    rw (← c.self.view_is) (is_step (g.B.Naming.opening p.keeper.number) p.keeper.history c.args.pass.now.receipts p.desk c.advance.new.self
+    c.record-number.result c.args.event c.in_ok-reply.field-0.reply
+    c.self.invariant c.record-number.ensures.sound c.in_ok-reply.ensures.takes c.record-number.ensures.number)
