@@ -1,4 +1,4 @@
--- Copying a part of a response. No public clause cites this module.
+-- Copying a part of a response, after so many bytes of it. Our own words.
 use Rattle.std.specs.Prelude.{◌≡◌, ℕ, ◌+◌, ◌-◌, ◌^◌, ◌<◌, min, Bool, true, false, List, length, Option, Result, Ok, Err}
 use Rattle.std.specs.Io.KnownBytes.{prepend_known}
 use Rattle.http_relay_wire.specs.Wires.{Reading}

@@ -39,11 +39,41 @@ impl CopyFault {
 
 /// How far a response was copied.
 #[derive(Clone, Copy, Debug, PartialEq, Eq)]
-pub(crate) enum Progress {
+pub enum Progress {
     /// The server has ended after so many bytes.
     Ended(u64),
-    /// So many bytes were copied, and the last read gave as many as there was room for.
+    /// So many bytes were copied, and the server may send more.
     Goes(u64),
+}
+
+/// Copies what one read of the server gives, after so many bytes of the response. It answers how many these are with it, at most
+/// 2^64 - 1, or that the server has ended. It reads once, and writes all that it read. The fault says which of both failed.
+pub fn copy_piece<S: Wire, C: Wire>(
+    server: &mut S,
+    client: &mut C,
+    room: &mut [u8],
+    before: u64,
+) -> Result<Progress, CopyFault>
+    requires { 0 < length room.old }
+    ensures copied { CopiedOn before (S.reading server.old) (S.reading server.new) (C.written client.old) (C.written client.new) (told result) }
+    ensures ended { IfOk result (λ progress. IsTrue (has_ended progress)
+        → IsAtEnd (S.reading server.new).unread × ((S.reading server.new).ended ≡ true)) }
+    ensures left { IfOk result (λ progress. (S.reading server.new).left < (S.reading server.old).left) }
+    ensures server { S.faults server.new ≡ server_faults (told result) (S.faults server.old) }
+    ensures client { C.faults client.new ≡ client_faults (told result) (C.faults client.old) }
+    ensures server_written { S.written server.new ≡ S.written server.old }
+    ensures client_reading { C.reading client.new ≡ C.reading client.old }
+{
+    let count = match server.read(room) {
+        Ok(0) => return Ok(Progress::Ended(before)),
+        Ok(count) => count,
+        Err(fault) if before == 0 => return Err(CopyFault::NoResponse(fault)),
+        Err(fault) => return Err(CopyFault::CutShort(fault)),
+    };
+    if let Err(fault) = write_all(client, &room[..count]) {
+        return Err(CopyFault::Client(fault));
+    }
+    Ok(Progress::Goes(before.saturating_add(count as u64)))
 }
 
 /// Copies what the server sends to the client, byte for byte, until the server ends, and answers how many bytes it sent (never more
@@ -104,17 +134,14 @@ fn copy_through<S: Wire, C: Wire>(
 {
     let mut copied = before;
     loop {
-        let count = match server.read(room) {
-            Ok(0) => return Ok(Progress::Ended(copied)),
-            Ok(count) => count,
-            Err(fault) if copied == 0 => return Err(CopyFault::NoResponse(fault)),
-            Err(fault) => return Err(CopyFault::CutShort(fault)),
+        let later = match copy_piece(server, client, room, copied) {
+            Ok(Progress::Goes(later)) => later,
+            Ok(Progress::Ended(copied)) => return Ok(Progress::Ended(copied)),
+            Err(fault) => return Err(fault),
         };
-        if let Err(fault) = write_all(client, &room[..count]) {
-            return Err(CopyFault::Client(fault));
-        }
-        copied = copied.saturating_add(count as u64);
-        if pauses && count == room.len() {
+        let count = later.saturating_sub(copied);
+        copied = later;
+        if pauses && count == room.len() as u64 {
             return Ok(Progress::Goes(copied));
         }
     }

@@ -1,47 +1,54 @@
-use Rattle.std.proofs.Common.{arith, ◌+◌, ◌++◌, length, length-append, take, ap, ◌∙◌}
-use Rattle.std.proofs.lemmas.List.{length-take-le}
-use Rattle.std.specs.Io.KnownBytes.{prepend_known, append_known}
-use Rattle.http_relay_wire.proofs.KnownBytes.{append_twice, prepend_twice}
-use Rattle.http_relay_body.proofs.Moves.{begins_later}
+use Rattle.std.proofs.Common.{◌≡◌, Ok, Err, refl, subst, ◌∙◌, arith}
+use Rattle.http_relay_body.specs.Copies.{server_faults, client_faults}
+use Rattle.http_relay_body.specs.Copying.{CopiedOn, told}
+use Rattle.http_relay_body.proofs.Copies.{copied_nothing, copied_twice}
 use Rattle.http_relay_body.proofs.response.copy_through.Goals as goal
 
-pub returns-in-Err-write_all-clause-copied : goal.returns-in-Err-write_all-clause-copied
-returns-in-Err-write_all-clause-copied g c =
-    let known = c.loop-count.invariant in
-    let part = take c.in-Ok.count c.read.new.buffer in
-    let size = length-append known.text part ∙ ap (λ n. length known.text + n) (length-take-le c.in-Ok.count c.read.new.buffer c.in-Ok.ensures.within) in
-    record {
-      text = known.text ++ part;
-      read = known.read ∙ ap (prepend_known known.text) c.in-Ok.ensures.bytes ∙ prepend_twice _ known.text part;
-      tells = omega (arith, size, c.in-Ok.count-test.1);
-      sent = begins_later _ _ _ known.text part known.sent c.in-Err-write_all.ensures.err;
-    }
+pub loop-later-init : goal.loop-later-init
+loop-later-init g c = record {
+  room = c.requires;
+  copied = copied_nothing c.args.before (g.S.Wire.reading c.args.server.now) (g.C.Wire.written c.args.client.now) (omega (arith, c.ranges.before.fits));
+  server = refl;
+  client = refl;
+  server_written = refl;
+  client_reading = refl;
+}
 
-pub loop-count-preserved : goal.loop-count-preserved
-loop-count-preserved g c =
-    let known = c.loop-count.invariant in
-    let part = take c.in-Ok.count c.read.new.buffer in
-    let size = length-append known.text part ∙ ap (λ n. length known.text + n) (length-take-le c.in-Ok.count c.read.new.buffer c.in-Ok.ensures.within) in
-    record {
-      text = known.text ++ part;
-      room = omega (arith, c.read.auto.buffer, known.room);
-      copied = grind (arith, size, known.copied, c.saturating_add-copied.ensures);
-      read = known.read ∙ ap (prepend_known known.text) c.in-Ok.ensures.bytes ∙ prepend_twice _ known.text part;
-      sent = c.in_default.ensures.ok ∙ ap (λ bytes. append_known bytes part) known.sent ∙ append_twice _ known.text part;
-      server = c.in-Ok.ensures.faults ∙ known.server;
-      client = c.in_default.ensures.faults ∙ known.client;
-      server_written = c.in-Ok.ensures.written ∙ known.server_written;
-      client_reading = c.in_default.ensures.reading ∙ known.client_reading;
-    }
+pub returns-in-Err-clause-copied : goal.returns-in-Err-clause-copied
+returns-in-Err-clause-copied g c = copied_twice c.args.before _ _ _ _ _ _ c.loop-later.copied (Err c.in-Err.fault) c.loop-later.invariant.copied c.in-Err.ensures.copied
+
+pub returns-in-Ok-Ended-clause-copied : goal.returns-in-Ok-Ended-clause-copied
+returns-in-Ok-Ended-clause-copied g c =
+    let reading = g.S.Wire.reading in
+    let written = g.C.Wire.written in
+    let piece = subst (λ p. CopiedOn c.loop-later.copied (reading c.loop-later.server) (reading c.copy_piece.new.server)
+    (written c.loop-later.client) (written c.copy_piece.new.client) (told (Ok p))) c.in-Ok-Ended.field-0-is c.in-Ok-Ended.ensures.copied in
+    copied_twice c.args.before _ _ _ _ _ _ c.loop-later.copied (Ok c.in-Ok-Ended.copied) c.loop-later.invariant.copied piece
 
 pub returns-then-count-room-clause-copied : goal.returns-then-count-room-clause-copied
 returns-then-count-room-clause-copied g c =
-    let known = c.loop-count.invariant in
-    let part = take c.in-Ok.count c.read.new.buffer in
-    let size = length-append known.text part ∙ ap (λ n. length known.text + n) (length-take-le c.in-Ok.count c.read.new.buffer c.in-Ok.ensures.within) in
+    let reading = g.S.Wire.reading in
+    let written = g.C.Wire.written in
+    let piece = subst (λ p. CopiedOn c.loop-later.copied (reading c.loop-later.server) (reading c.copy_piece.new.server)
+    (written c.loop-later.client) (written c.copy_piece.new.client) (told (Ok p))) c.in-Ok-Goes.field-0-is c.in-Ok-Goes.ensures.copied in
+    copied_twice c.args.before _ _ _ _ _ _ c.loop-later.copied (Ok c.in-Ok-Goes.later) c.loop-later.invariant.copied piece
+
+pub loop-later-preserved : goal.loop-later-preserved
+loop-later-preserved g c =
+    let known = c.loop-later.invariant in
+    let reading = g.S.Wire.reading in
+    let written = g.C.Wire.written in
+    let faults = subst (λ p. g.S.Wire.faults c.copy_piece.new.server ≡ server_faults (told (Ok p)) (g.S.Wire.faults c.loop-later.server))
+    c.in-Ok-Goes.field-0-is c.in-Ok-Goes.ensures.server in
+    let failed = subst (λ p. g.C.Wire.faults c.copy_piece.new.client ≡ client_faults (told (Ok p)) (g.C.Wire.faults c.loop-later.client))
+    c.in-Ok-Goes.field-0-is c.in-Ok-Goes.ensures.client in
+    let piece = subst (λ p. CopiedOn c.loop-later.copied (reading c.loop-later.server) (reading c.copy_piece.new.server)
+    (written c.loop-later.client) (written c.copy_piece.new.client) (told (Ok p))) c.in-Ok-Goes.field-0-is c.in-Ok-Goes.ensures.copied in
     record {
-      text = known.text ++ part;
-      read = known.read ∙ ap (prepend_known known.text) c.in-Ok.ensures.bytes ∙ prepend_twice _ known.text part;
-      tells = grind (arith, size, known.copied, c.saturating_add-copied.ensures);
-      sent = c.in_default.ensures.ok ∙ ap (λ bytes. append_known bytes part) known.sent ∙ append_twice _ known.text part;
+      room = omega (arith, c.copy_piece.auto.room, known.room);
+      copied = copied_twice c.args.before _ _ _ _ _ _ c.loop-later.copied (Ok c.in-Ok-Goes.later) known.copied piece;
+      server = faults ∙ known.server;
+      client = failed ∙ known.client;
+      server_written = c.in-Ok-Goes.ensures.server_written ∙ known.server_written;
+      client_reading = c.in-Ok-Goes.ensures.client_reading ∙ known.client_reading;
     }
