@@ -64,7 +64,3 @@ IfOpened (Ok (Opened slot)) holds = holds slot
 IfOpened (Ok NotServing) holds = ⊤
 IfOpened (Ok Over) holds = ⊤
 IfOpened (Err refused) holds = ⊤
-
--- of the entries before the last this holds, and the last is that the server is full
-abbrev pub WasFull : ℕ → List Entry → (List Entry → Type 0) → Type 0
-WasFull server entries holds = (before : List Entry) → entries ≡ before ++ full_entry server ∷ [] → holds before

@@ -1,9 +1,10 @@
 ghost use Rattle.std.specs.Prelude.{◌≡◌};
 ghost use Rattle.lb_desk_ports.specs.Calls.{after_call};
-ghost use Rattle.http_relay_queue.specs.Queues.{Queued, IfOpened, WasFull};
+ghost use Rattle.http_relay_queue.specs.Queues.{Queued, IfOpened};
 
-use crate::limit::{PAUSE, is_over};
-use lb_desk_ports::{Clock, Opening, Port, Refused};
+use crate::limit::PAUSE;
+use crate::{Asking, ask_again, ask_first};
+use lb_desk_ports::{Clock, Port, Refused};
 use lb_types::ServerId;
 
 /// How a wait for a connection ended.
@@ -30,45 +31,15 @@ pub fn open_in_queue<R, P: Port<R>, K: Clock<R>>(
     ensures slot { IfOpened result (λ slot. P.server_of slot ≡ server) }
     ensures refusals { P.refusals port.new ≡ after_call result (P.refusals port.old) }
 {
-    let opening = match port.open(rt, server) {
-        Ok(opening) => opening,
-        Err(refused) => return Err(refused),
-    };
-    match opening {
-        Opening::Opened(slot) => Ok(Waited::Opened(slot)),
-        Opening::NotServing => Ok(Waited::NotServing),
-        Opening::Full => wait(rt, port, clock, server, limit),
-    }
-}
-
-/// Waits before a server that was full just now.
-fn wait<R, P: Port<R>, K: Clock<R>>(
-    rt: &R,
-    port: &mut P,
-    clock: &mut K,
-    server: ServerId,
-    limit: Option<u32>,
-) -> Result<Waited<P::Slot>, Refused>
-    ensures queued { WasFull server (P.entries port.old) (λ before. Queued limit server result before (P.entries port.new)
-        (K.told clock.old) (K.told clock.new) (K.pauses clock.old) (K.pauses clock.new)) }
-    ensures slot { IfOpened result (λ slot. P.server_of slot ≡ server) }
-    ensures refusals { P.refusals port.new ≡ after_call result (P.refusals port.old) }
-{
-    let start = clock.now(rt).as_millis();
-    let mut now = start;
-    let mut pauses: u64 = 0;
-    while !is_over(limit, pauses, now.saturating_sub(start)) {
-        clock.pause(rt, PAUSE);
-        pauses += 1;
-        let opening = match port.open(rt, server) {
-            Ok(opening) => opening,
+    let mut asking = ask_first(rt, port, clock, server, limit);
+    loop {
+        match asking {
             Err(refused) => return Err(refused),
-        };
-        match opening {
-            Opening::Opened(slot) => return Ok(Waited::Opened(slot)),
-            Opening::NotServing => return Ok(Waited::NotServing),
-            Opening::Full => now = clock.now(rt).as_millis(),
+            Ok(Asking::Ended(waited)) => return Ok(waited),
+            Ok(Asking::Full(queueing)) => {
+                clock.pause(rt, PAUSE);
+                asking = ask_again(rt, port, clock, server, limit, queueing);
+            }
         }
     }
-    Ok(Waited::Over)
 }
