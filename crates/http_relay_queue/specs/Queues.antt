@@ -1,6 +1,6 @@
 -- Waiting for a connection to a server that is full: HAProxy Configuration Manual 2.8, `timeout queue` and, for a server,
 -- `maxconn`. Our own: who waits asks anew every 50 ms, and a limit of 0 asks once.
-use Rattle.std.specs.Prelude.{◌≡◌, ℕ, ◌+◌, ◌-◌, ◌*◌, ◌/◌, ◌^◌, nat_le, ◌||◌, Bool, true, false, ⊤, List, [], ◌∷◌, ◌++◌, length, replicate, Option, Some, None, Result, Ok, Err}
+use Rattle.std.specs.Prelude.{◌≡◌, ℕ, ◌+◌, ◌-◌, ◌/◌, ◌^◌, nat_le, ◌||◌, Bool, true, false, ⊤, List, [], ◌∷◌, ◌++◌, length, replicate, Option, Some, None, Result, Ok, Err}
 use Rattle.lb_desk_model.specs.declared.entry.Entry.{Entry}
 use Rattle.lb_desk_model.specs.declared.event.Event.TheVariants.{Open}
 use Rattle.lb_desk_model.specs.declared.reply.Refusal.TheVariants as refusal

@@ -1,4 +1,4 @@
-use Rattle.std.proofs.Common.{◌≡◌, ◌-◌, ◌++◌, [], ◌∷◌, true, false, Ok, refl, sym, subst, ap, ◌∙◌, arith}
+use Rattle.std.proofs.Common.{◌≡◌, ◌-◌, ◌++◌, [], ◌∷◌, false, Ok, refl, sym, subst, ap, ◌∙◌, arith}
 use Rattle.http_relay_queue.specs.Queues.{is_over, full_entry, last_entries}
 use Rattle.http_relay_queue.specs.declared.queue.Waited.TheVariants.{Opened, NotServing}
 use Rattle.lb_desk_ports.specs.Calls.{Grows}

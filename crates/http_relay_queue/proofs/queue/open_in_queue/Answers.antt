@@ -1,7 +1,7 @@
-use Rattle.std.proofs.Common.{◌++◌, ◌∷◌, [], Ok, Err, sym, subst, ap, ◌∙◌, append_assoc}
+use Rattle.std.proofs.Common.{◌++◌, ◌∷◌, [], Ok, sym, subst, ap, ◌∙◌, append_assoc}
 use Rattle.lb_desk_ports.specs.Calls.{Grows, after_call}
 use Rattle.http_relay_queue.specs.Asks.{Asks, IsQueueing}
-use Rattle.http_relay_queue.proofs.Waits.{grows_none, grows_more, wherever}
+use Rattle.http_relay_queue.proofs.Waits.{grows_none, grows_more}
 use Rattle.http_relay_queue.proofs.queue.open_in_queue.Goals as goal
 
 pub loop-asking-init : goal.loop-asking-init
