@@ -11,7 +11,7 @@ use http_relay_wire::{Wire, WireFault, write_all};
 /// Sends the request, of whose opening so many bytes were taken. A client that waits for `100 Continue` gets it first, and then head
 /// and body go to the server. The part of the body that came with the client's head goes out with the head. Of a body of so many
 /// bytes that is all of it, and of a chunked one the chunks that came whole.
-pub(crate) fn send_request<C: Wire, S: Wire>(
+pub fn send_request<C: Wire, S: Wire>(
     request: &Outgoing<'_>,
     taken: usize,
     client: &mut C,

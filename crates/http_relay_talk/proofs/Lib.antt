@@ -1,1 +1,5 @@
 pub mod Before
+pub mod Copies
+pub mod Passing
+pub mod Shares
+pub mod Visits

@@ -1,1 +1,4 @@
+pub mod Openings
+pub mod Shares
 pub mod Talks
+pub mod Visits

@@ -1,0 +1,40 @@
+use Rattle.std.proofs.Common.{◌∷◌, [], Ok, subst, sym, ◌∙◌}
+use Rattle.lb_desk_ports.specs.Calls.{Grows}
+use Rattle.http_relay_dial.specs.Dials.{talk_of}
+use Rattle.http_relay_talk.proofs.Before.{untouched, fresh_before, began}
+use Rattle.http_relay_talk.proofs.opening.dial_and_send.Goals as goal
+
+pub returns-in-Ok-send_request : goal.returns-in-Ok-send_request
+returns-in-Ok-send_request g c =
+    let request = c.args.request.now in
+    let opened = talk_of g.D.Connection.Wire.written g.D.Connection.Wire.reading g.D.Connection.Wire.faults c.in-Ok.dialled.0 in
+    let told = c.in-Ok.ensures in
+    let first = untouched opened in (
+      first,
+      fresh_before c.opening.result.now c.in-Ok.dialled.1 opened told.taken,
+      told.dials,
+      c.in-Ok-send_request.ensures first (began request c.opening.result.now c.in-Ok.dialled.1 opened c.opening.ensures told.taken),
+      told.talks,
+      told.failures,
+    )
+
+pub returns-in-Err-send_request : goal.returns-in-Err-send_request
+returns-in-Err-send_request g c =
+    let request = c.args.request.now in
+    let target = c.args.target.now in
+    let server = talk_of g.D.Connection.Wire.written g.D.Connection.Wire.reading g.D.Connection.Wire.faults in
+    let opened = server c.in-Ok.dialled.0 in
+    let last = server c.send_request.new.server in
+    let told = c.in-Ok.ensures in
+    let first = untouched opened in (
+      record {
+        first = first;
+        last = last;
+        fresh = fresh_before c.opening.result.now c.in-Ok.dialled.1 opened told.taken;
+        dial = subst (λ dials. Grows (g.D.Dialer.dials c.args.dialer.now) dials
+            (record { endpoint = target.endpoint; limits = target.limits; answer = Ok first.reading } ∷ [])) (sym c.hang_up.ensures.dials) told.dials;
+        exchanged = c.in-Err-send_request.ensures first (began request c.opening.result.now c.in-Ok.dialled.1 opened c.opening.ensures told.taken);
+        hung_up = subst (λ talks. Grows talks (g.D.Dialer.talks c.hang_up.new.self) (last ∷ [])) told.talks c.hang_up.ensures.talks;
+      },
+      c.hang_up.ensures.failures ∙ told.failures,
+    )
