@@ -10,7 +10,7 @@ use Rattle.std.specs.Io.KnownBytes.{prepend_known}
 use Rattle.http_relay_wire.specs.Wires.{Reading}
 use Rattle.http_relay_wire.proofs.Rooms.{front_within}
 use Rattle.http_relay_wire.specs.declared.fault.FaultCounts.{FaultCounts}
-use Rattle.check_workers_probe.specs.Probes.{BeginsWithSuccess, NeverBeginsWithSuccess, HasReason, Probed}
+use Rattle.check_workers_probe.specs.Probes.{BeginsWithSuccess, NeverBeginsWithSuccess}
 
 -- a head with another status stands at the front, and no other head can
 pub other_status : (text : List ℕ) (headers : List HeaderSpan) (spans : ResponseSpans) (head : ResponseHead)
@@ -34,12 +34,6 @@ not_yet text never success = never [] (subst BeginsWithSuccess (sym (append-nil 
 -- without a head there is no success
 pub none_yet : (text : List ℕ) → HasNoResponse text → ¬ BeginsWithSuccess text
 none_yet text none (head, rest, success) = none head rest success.reads
-
--- a probe that says no
-pub says_no : (text : List ℕ) (old new : Reading) (before after : FaultCounts) → old.unread ≡ prepend_known text new.unread
-    → ¬ BeginsWithSuccess text → HasReason text new before after → Probed old new before after false
-says_no text old new before after read not reason =
-    record { text = text; read = read; yes = λ wrong. absurd cc; calm = λ wrong. absurd cc; only = λ success. absurd (not success); no = λ _. reason }
 
 -- a head has bytes
 printed : (head : ResponseHead) → 0 < length (print_response head)
