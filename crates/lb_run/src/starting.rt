@@ -1,6 +1,6 @@
 //! Starting threads. Each runs in the scope that it is given, and ends by the flag of the floor or by the end of a channel.
 use crate::announcer::say;
-use crate::bells::Bells;
+use crate::bells::copy_of;
 use crate::calling::call_workers;
 use crate::commands::answer_operators;
 use crate::floor::Floor;
@@ -22,11 +22,11 @@ use std::thread;
 use std::thread::Scope;
 use std::time::Duration;
 
-/// How many milliseconds pass between two looks at the flag where no operator can connect.
+/// How many milliseconds pass between two looks at the flag.
 const TICK_MILLIS: u64 = 100;
 
-/// Starts all threads, and answers operators in this one until the balancer is to end. Returning, it lets go of all channels, by whose
-/// ends checks and planners end.
+/// Starts all threads, and returns once the balancer is to end and operators are answered no more. Returning, it has let go of all
+/// channels, by whose ends checks and planners end.
 pub(crate) fn start_and_answer<'s, E, R: Host, B: Naming + Send + Sync, G: SharedGate<R>>(
     rt: &'s R,
     scope: &'s Scope<'s, E>,
@@ -36,14 +36,14 @@ pub(crate) fn start_and_answer<'s, E, R: Host, B: Naming + Send + Sync, G: Share
 ) -> Result<(), Refused> {
     say_listening(rt, floor.alloc, &doors)?;
     let (to, arrivals) = waiting_line(floor.alloc)?;
-    let (_quit, ends) = bounded(floor.alloc, 1)?;
+    let (checks_end, ends) = bounded(floor.alloc, 1)?;
     let bells = start_planners(rt, scope, floor)?;
     start_checks(rt, scope, floor, &bells, ends)?;
     start_workers(rt, scope, floor, &arrivals)?;
     start_calls(rt, scope, floor, arrivals)?;
     start_listeners(rt, scope, floor, doors, to)?;
     match operators {
-        Some(listener) => answer_operators(rt, floor, listener, Bells { rt, bells }),
+        Some(listener) => Ok(answer_operators(rt, floor, listener, bells, checks_end)?),
         None => {
             wait_for_end(rt, floor);
             Ok(())
@@ -64,7 +64,7 @@ fn say_listening<R: Host>(rt: &R, alloc: Global, doors: &[ClientDoor]) -> Result
 }
 
 /// Waits until a thread ends the balancer.
-fn wait_for_end<R: Host, B: Naming, G: Drop>(rt: &R, floor: &Floor<'_, B, G>) {
+pub(crate) fn wait_for_end<R: Host, B: Naming, G: Drop>(rt: &R, floor: &Floor<'_, B, G>) {
     for _ in rt.forever() {
         if floor.stop.load(Ordering::SeqCst) {
             break;
@@ -104,7 +104,7 @@ fn start_checks<'s, E, R: Host, B: Naming + Send + Sync, G: SharedGate<R>>(
         if !has_checks(backend) {
             continue;
         }
-        let bell = copy_of(bells.get(place))?;
+        let bell = bell_at(bells, place)?;
         let ends = ends.clone()?;
         scope.spawn(move || check(rt, floor, place, bell, ends))?;
     }
@@ -118,10 +118,10 @@ fn has_checks(backend: &BackendConfig) -> bool {
         .any(|server| server.settings().check.is_some())
 }
 
-fn copy_of(bell: Option<&Option<Bell>>) -> Result<Option<Bell>, AllocError> {
-    match bell {
-        Some(Some(bell)) => Ok(Some(bell.clone()?)),
-        _ => Ok(None),
+fn bell_at(bells: &[Option<Bell>], place: usize) -> Result<Option<Bell>, AllocError> {
+    match bells.get(place) {
+        Some(bell) => copy_of(bell),
+        None => Ok(None),
     }
 }
 
