@@ -11,8 +11,9 @@ import time
 from pathlib import Path
 
 from .cases import case, expect, expect_equal, wait_until
-from .clients import ask_operator, at_once, get, operator_stream
+from .clients import Client, ask_operator, at_once, get, is_refused, operator_stream, read_to_end
 from .farms import TABLE, Balancer, Ending, Farm, ends_well, listen, section, server
+from .origins import HOST, Gate, answers
 
 UNKNOWN = "100 UnknownCommand\n\n"
 MISSING = "101 MissingWord\n\n"
@@ -183,17 +184,28 @@ def one_line_of_a_connection_is_answered_however_it_ends(farm: Farm) -> None:
     ends_well(balancer, checked=True)
 
 
+def asked_within(balancer: Balancer, least: float, most: float) -> None:
+    """Another operator is answered after between so many seconds and so many."""
+    begun = time.monotonic()
+    expect_equal("the answer to another one", balancer.tell("show plan web"), "no plan\n\n")
+    took = time.monotonic() - begun
+    expect(f"it came after {least} to {most} seconds: {took}", least <= took <= most)
+
+
 @case
-def an_operator_that_says_nothing_keeps_nobody_out_for_ever(farm: Farm) -> None:
+def three_operators_that_say_nothing_keep_nobody_out(farm: Farm) -> None:
     balancer = farm_of_two(farm)
-    with operator_stream(balancer.operators), operator_stream(balancer.operators) as half:
-        half.sendall(b"show pl")
-        expect_equal("the answer to another one", balancer.tell("show plan web"), "no plan\n\n")
+    with contextlib.ExitStack() as stack:
+        silent = [stack.enter_context(operator_stream(balancer.operators)) for _ in range(3)]
+        silent[0].sendall(b"show pl")
+        asked_within(balancer, 0, 2)
+        # They are let go once their line took 5 seconds.
+        expect_equal("what they get", [read_to_end(stream) for stream in silent], [b""] * 3)
     ends_well(balancer, checked=True)
 
 
 @case
-def an_operator_that_sends_a_byte_now_and_then_keeps_nobody_out_for_ever(farm: Farm) -> None:
+def four_operators_that_send_a_byte_now_and_then_keep_others_out_for_5_seconds(farm: Farm) -> None:
     balancer = farm_of_two(farm)
     ended = threading.Event()
 
@@ -202,17 +214,84 @@ def an_operator_that_sends_a_byte_now_and_then_keeps_nobody_out_for_ever(farm: F
             while not ended.wait(0.2):
                 stream.sendall(b";")
 
-    with operator_stream(balancer.operators) as stream:
-        dripping = threading.Thread(target=drip, args=(stream,))
-        dripping.start()
-        begun = time.monotonic()
+    with contextlib.ExitStack() as stack:
+        streams = [stack.enter_context(operator_stream(balancer.operators)) for _ in range(4)]
+        dripping = [threading.Thread(target=drip, args=(stream,)) for stream in streams]
+        for thread in dripping:
+            thread.start()
         try:
-            expect_equal("the answer to another one", balancer.tell("show plan web"), "no plan\n\n")
-            expect("it came behind 5 seconds", 3 < time.monotonic() - begun < 8)
+            asked_within(balancer, 3, 8)
         finally:
             ended.set()
-            dripping.join()
+            for thread in dripping:
+                thread.join()
     ends_well(balancer, checked=True)
+
+
+@case
+def an_operator_that_reads_slowly_holds_up_no_other_one_and_no_stop(farm: Farm) -> None:
+    port = farm.port()
+    balancer = farm.start(listen(port, *TABLE, server("a", farm.origin())))
+    for number in range(200):
+        get(port, f"x-id: a-key-with-some-room-{number}")
+    ended = threading.Event()
+    with operator_stream(balancer.operators) as stream:
+        # Some 4 MB, of which it takes 20 KB a second.
+        stream.sendall(";".join(["show table web"] * 270).encode() + b"\n")
+        begun = time.monotonic()
+        reading = threading.Thread(target=lambda: reads_slowly(stream, ended))
+        reading.start()
+        try:
+            asked_within(balancer, 0, 2)
+            expect_equal("the answer to `stop`", balancer.tell("stop"), "\n")
+            due = Ending(0, "closed web events 800 rising yes\n", balancer.errors())
+            expect_equal("the end", balancer.wait(), due)
+            expect("it waits for the reader, but not for long", 3 < time.monotonic() - begun < 15)
+        finally:
+            ended.set()
+            reading.join()
+
+
+def reads_slowly(stream: socket.socket, ended: threading.Event) -> None:
+    """Takes 1,000 bytes each 50 milliseconds."""
+    with contextlib.suppress(OSError):
+        while not ended.wait(0.05):
+            stream.recv(1000)
+
+
+@case
+def operators_are_answered_while_a_stop_waits_for_requests(farm: Farm) -> None:
+    gate, port = Gate(answers(b"a")), farm.port()
+    balancer = farm.start(listen(port, *TABLE, server("a", farm.origin(gate))))
+    at = balancer.operators
+    assert isinstance(at, Path)
+    with Client(port) as client:
+        client.send(b"GET / HTTP/1.1\r\nx-id: k\r\n\r\n")
+        gate.wait_for(1)
+        expect_equal("the answer to `stop`", balancer.tell("stop"), "\n")
+        wait_until("nobody else is accepted", lambda: is_refused(port))
+        expect("the pin is shown", "key=k " in balancer.tell("show table web"))
+        expect_equal("a change", balancer.tell("set server web/a weight 2"), "\n")
+        expect_equal("a second `stop`", balancer.tell("stop"), "\n")
+        expect("it runs on", not balancer.has_ended() and at.exists())
+        gate.open()
+        client.read_to_end()
+    expect_equal("the end", balancer.wait(), Ending(0, "closed web events 5 rising yes\n", balancer.errors()))
+    expect("the socket's file is gone", not at.exists())
+
+
+@case
+def at_a_stop_the_command_socket_is_free_before_a_check_that_waits_has_ended(farm: Farm) -> None:
+    with socket.socket() as silent:
+        silent.bind((HOST, 0))
+        silent.listen(100)
+        lines = ("option httpchk", "timeout check 4s", server("a", silent.getsockname()[1], "check inter 4s"))
+        balancer = farm.start(listen(farm.port(), *lines))
+        at = balancer.operators
+        assert isinstance(at, Path)
+        expect_equal("the answer to `stop`", balancer.tell("stop"), "\n")
+        wait_until("the socket's file is gone", lambda: not at.exists(), 2)
+        expect_equal("the status", balancer.wait().status, 0)
 
 
 # What a program sends to an address that it takes for a web server's, with commands in it.

@@ -1,28 +1,110 @@
+//! Answering operators, several at a time.
 ghost use Rattle.std.specs.Prelude.{◌≡◌, length, IfOk};
 
-use crate::bells::Bells;
+use crate::bells::{Bells, copies_of};
 use crate::floor::{Floor, RunSeat};
+use crate::starting::wait_for_end;
 use crate::{Host, SharedGate};
 use command_socket_listen::{CommandListener, LineStream};
 use command_socket_serve::{Console, Next, named_backend, serve_connection};
+use crossbeam_channel::Sender;
 use http_relay_socket::end_gently;
 use lb_answers::NamedBackend;
 use lb_config::BackendConfig;
 use lb_desk_backend::backend_of;
 use lb_desk_model::Backend;
+use lb_desk_planner::Bell;
 use lb_desk_ports::Refused;
 use lb_desk_shared::Naming;
 use std::alloc::{AllocError, Global};
+use std::sync::atomic::{AtomicBool, Ordering};
+use std::thread;
+use std::thread::Scope;
+use std::time::Duration;
+
+/// How many operators are answered at a time. So many silent or slow ones are needed to keep another one out.
+pub(crate) const OPERATORS: usize = 4;
 
 /// The room through which the rest of an operator's bytes is read and dropped.
 const ROOM: usize = 4096;
 
-/// Answers operators, one after another, until one of them says `stop` or the balancer ends for another cause.
-pub(crate) fn answer_operators<R: Host, B: Naming, G: SharedGate<R>>(
+/// How many milliseconds pass between two looks at whether the workers have ended.
+const LOOK_MILLIS: u64 = 20;
+
+/// Answers operators, some at a time, until the balancer is to end and no worker is left: so they are answered also after `stop`, while
+/// requests are finished. `checks_end` is let go once the balancer is to end, and the checks end by that.
+pub(crate) fn answer_operators<R: Host, B: Naming + Send + Sync, G: SharedGate<R>>(
+    rt: &R,
+    floor: &Floor<'_, B, G>,
+    listener: &CommandListener,
+    bells: Vec<Option<Bell>>,
+    checks_end: Sender<()>,
+) -> Result<(), AllocError> {
+    let is_over = AtomicBool::new(false);
+    let is_over = &is_over;
+    thread::scope(thread::scope_env(), rt, move |scope| {
+        let started = start_operators(rt, scope, floor, listener, &bells, is_over);
+        if started.is_err() {
+            floor.stop();
+        }
+        drop(bells);
+        wait_for_end(rt, floor);
+        drop(checks_end);
+        wait_for_workers(rt, floor);
+        is_over.store(true, Ordering::SeqCst);
+        started
+    })
+}
+
+/// Starts the threads that answer operators.
+fn start_operators<'s, E, R: Host, B: Naming + Send + Sync, G: SharedGate<R>>(
+    rt: &'s R,
+    scope: &'s Scope<'s, E>,
+    floor: &'s Floor<'s, B, G>,
+    listener: &'s CommandListener,
+    bells: &[Option<Bell>],
+    is_over: &'s AtomicBool,
+) -> Result<(), AllocError> {
+    for _ in 0..OPERATORS {
+        let bells = Bells {
+            rt,
+            bells: copies_of(floor.alloc, bells)?,
+        };
+        scope.spawn(move || answer_some(rt, floor, listener, bells, is_over))?;
+    }
+    Ok(())
+}
+
+/// Waits until each worker has finished its requests and ended.
+fn wait_for_workers<R: Host, B: Naming, G: Drop>(rt: &R, floor: &Floor<'_, B, G>) {
+    for _ in rt.forever() {
+        if floor.roster.is_empty() {
+            break;
+        }
+        thread::sleep(rt, Duration::from_millis(LOOK_MILLIS));
+    }
+}
+
+/// Answers one operator after another, from the thread's first seat to its last pass.
+fn answer_some<R: Host, B: Naming, G: SharedGate<R>>(
     rt: &R,
     floor: &Floor<'_, B, G>,
     listener: &CommandListener,
     bells: Bells<'_, R>,
+    is_over: &AtomicBool,
+) {
+    if answer_at_seats(rt, floor, listener, bells, is_over).is_err() {
+        floor.starve();
+    }
+}
+
+/// The same. The error is that the thread can't begin.
+fn answer_at_seats<R: Host, B: Naming, G: SharedGate<R>>(
+    rt: &R,
+    floor: &Floor<'_, B, G>,
+    listener: &CommandListener,
+    bells: Bells<'_, R>,
+    is_over: &AtomicBool,
 ) -> Result<(), Refused> {
     let configs = floor.config.backends();
     let backends = backends_of(floor.alloc, configs)?;
@@ -30,12 +112,14 @@ pub(crate) fn answer_operators<R: Host, B: Naming, G: SharedGate<R>>(
     let console = Console::new(floor.config, &names, &floor.gate);
     let mut bells = bells;
     let mut seats = floor.seats(rt)?;
-    answer_each(rt, floor, listener, &console, &mut seats, &mut bells);
+    answer_each(
+        rt, floor, listener, &console, &mut seats, &mut bells, is_over,
+    );
     floor.leave_all(rt, seats);
     Ok(())
 }
 
-/// Answers one operator after another.
+/// Answers one operator after another until it is over. The command `stop` asks all threads to end.
 fn answer_each<R: Host, B: Naming, G: SharedGate<R>>(
     rt: &R,
     floor: &Floor<'_, B, G>,
@@ -43,20 +127,21 @@ fn answer_each<R: Host, B: Naming, G: SharedGate<R>>(
     console: &Console<'_, G>,
     seats: &mut [RunSeat<'_, B>],
     bells: &mut Bells<'_, R>,
+    is_over: &AtomicBool,
 )
     requires { length seats.old ≡ length console.now.config.backends }
 {
     let mut room = [0; ROOM];
     for _ in rt.forever() {
-        let Some(stream) = listener.next_connection(rt, floor.stop) else {
+        let Some(stream) = listener.next_connection(rt, is_over) else {
             break;
         };
-        let mut line = LineStream::new(rt, stream);
+        let mut line = LineStream::new(rt, is_over, stream);
         let next = serve_connection(rt, floor.alloc, console, seats, bells, &mut line);
-        end_gently(rt, line.into_stream(), &mut room);
         if next == Next::Stop {
-            break;
+            floor.stop();
         }
+        end_gently(rt, line.into_stream(), &mut room);
     }
 }
 

@@ -33,7 +33,7 @@ pub(crate) struct Floor<'a, B: Naming, G: Drop> {
     pub(crate) starved: &'a AtomicBool,
     /// The moment from which the clocks of all threads count.
     pub(crate) start: Instant,
-    /// What workers, planners and the operators' thread pass at their points.
+    /// What workers, planners and operators' threads pass at their points.
     pub(crate) gate: G,
     pub(crate) ghost complete: { length desks.now ≡ length config.now.backends },
 }

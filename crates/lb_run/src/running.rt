@@ -2,6 +2,7 @@ ghost use Rattle.std.specs.Prelude.{◌≡◌, length};
 ghost use Rattle.lb_run_desks.specs.NewDesks.{AreNamed};
 
 use crate::closing::close_all;
+use crate::commands::OPERATORS;
 use crate::floor::Floor;
 use crate::starting::start_and_answer;
 use crate::{Host, RunFault, SharedGate};
@@ -35,7 +36,7 @@ pub fn run_config<R: Host + Files, W: Write>(
     run_config_past(rt, alloc, config, OpenGate, out)
 }
 
-/// The same, where workers, planners and the operators' thread pass this gate at their points, so that a test can hold them there.
+/// The same, where workers, planners and operators' threads pass this gate at their points, so that a test can hold them there.
 pub fn run_config_past<R: Host + Files, G: SharedGate<R>, W: Write>(
     rt: &R,
     alloc: Global,
@@ -71,13 +72,15 @@ fn run_named<R: Host + Files, B: Naming + Send + Sync, G: SharedGate<R>, W: Writ
     close_all(alloc, config, desks, passes.into_passes(), out)
 }
 
-/// How many passes the threads have together at most: each worker, those on call included, and the operators' thread one at each desk, and
+/// How many passes the threads have together at most: each worker, those on call included, and each operators' thread one at each desk, and
 /// each desk's checks and planner one.
 fn most_passes(config: &Config) -> usize {
-    (usize::from(config.relays()) + MOST_ON_CALL + 3).saturating_mul(config.backends().len())
+    (usize::from(config.relays()) + MOST_ON_CALL + OPERATORS + 2).saturating_mul(
+        config.backends().len(),
+    )
 }
 
-/// Runs all threads, and returns once all of them have ended and the operators' address is free again.
+/// Runs all threads, and returns once all of them have ended.
 fn serve<R: Host + Files, B: Naming + Send + Sync, G: SharedGate<R>>(
     rt: &R,
     alloc: Global,
@@ -107,28 +110,28 @@ fn serve<R: Host + Files, B: Naming + Send + Sync, G: SharedGate<R>>(
         gate,
     };
     let Doors { clients, commands } = doors;
-    let served = serve_on(rt, &floor, clients, commands.as_ref());
+    let served = serve_on(rt, &floor, clients, commands);
     drop(floor);
-    if let Some(listener) = commands {
-        // A file that stays is replaced at the next start.
-        let _ = listener.close(rt);
-    }
     if served.is_err() || starved.load(Ordering::SeqCst) {
         return Err(RunFault::Memory);
     }
     Ok(())
 }
 
-/// Runs all threads on the floor.
-fn serve_on<R: Host, B: Naming + Send + Sync, G: SharedGate<R>>(
+/// Runs all threads on the floor. The operators' address is free again as soon as no operator is answered any more.
+fn serve_on<R: Host + Files, B: Naming + Send + Sync, G: SharedGate<R>>(
     rt: &R,
     floor: &Floor<'_, B, G>,
     clients: Vec<ClientDoor>,
-    operators: Option<&CommandListener>,
+    operators: Option<CommandListener>,
 ) -> Result<(), Refused> {
     thread::scope(thread::scope_env(), rt, move |scope| {
-        let served = start_and_answer(rt, scope, floor, clients, operators);
+        let served = start_and_answer(rt, scope, floor, clients, operators.as_ref());
         floor.stop();
+        if let Some(listener) = operators {
+            // A file that stays is replaced at the next start.
+            let _ = listener.close(rt);
+        }
         served
     })
 }

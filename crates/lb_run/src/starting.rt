@@ -1,6 +1,6 @@
 //! Starting threads. Each runs in the scope that it is given, and ends by the flag of the floor or by the end of a channel.
 use crate::announcer::say;
-use crate::bells::Bells;
+use crate::bells::copy_of;
 use crate::calling::call_workers;
 use crate::commands::answer_operators;
 use crate::floor::Floor;
@@ -23,7 +23,7 @@ use std::thread;
 use std::thread::Scope;
 use std::time::Duration;
 
-/// How many milliseconds pass between two looks at the flag where no operator can connect.
+/// How many milliseconds pass between two looks at the flag.
 const TICK_MILLIS: u64 = 100;
 
 /// How many files a listener needs: one to watch its clients, and two for a client that waits at its door.
@@ -32,8 +32,8 @@ const FILES_A_LISTENER: usize = 3;
 /// How many files operators' connections and files that are read or written need.
 const MORE_FILES: usize = 32;
 
-/// Starts all threads, and answers operators in this one until the balancer is to end. Returning, it lets go of all channels, by whose
-/// ends checks and planners end.
+/// Starts all threads, and returns once the balancer is to end and operators are answered no more. Returning, it has let go of all
+/// channels, by whose ends checks and planners end.
 pub(crate) fn start_and_answer<'s, E, R: Host, B: Naming + Send + Sync, G: SharedGate<R>>(
     rt: &'s R,
     scope: &'s Scope<'s, E>,
@@ -44,14 +44,14 @@ pub(crate) fn start_and_answer<'s, E, R: Host, B: Naming + Send + Sync, G: Share
     say_listening(rt, floor.alloc, &doors)?;
     let (lanes, line) = waiting_line(floor.alloc, doors.len())?;
     let files = other_files(floor.config, &doors);
-    let (_quit, ends) = bounded(floor.alloc, 1)?;
+    let (checks_end, ends) = bounded(floor.alloc, 1)?;
     let bells = start_planners(rt, scope, floor)?;
     start_checks(rt, scope, floor, &bells, ends)?;
     start_workers(rt, scope, floor, &line)?;
     start_calls(rt, scope, floor, line)?;
     start_listeners(rt, scope, floor, doors, lanes, files)?;
     match operators {
-        Some(listener) => answer_operators(rt, floor, listener, Bells { rt, bells }),
+        Some(listener) => Ok(answer_operators(rt, floor, listener, bells, checks_end)?),
         None => {
             wait_for_end(rt, floor);
             Ok(())
@@ -72,7 +72,7 @@ fn say_listening<R: Host>(rt: &R, alloc: Global, doors: &[ClientDoor]) -> Result
 }
 
 /// Waits until a thread ends the balancer.
-fn wait_for_end<R: Host, B: Naming, G: Drop>(rt: &R, floor: &Floor<'_, B, G>) {
+pub(crate) fn wait_for_end<R: Host, B: Naming, G: Drop>(rt: &R, floor: &Floor<'_, B, G>) {
     for _ in rt.forever() {
         if floor.stop.load(Ordering::SeqCst) {
             break;
@@ -112,7 +112,7 @@ fn start_checks<'s, E, R: Host, B: Naming + Send + Sync, G: SharedGate<R>>(
         if !has_checks(backend) {
             continue;
         }
-        let bell = copy_of(bells.get(place))?;
+        let bell = bell_at(bells, place)?;
         let ends = ends.clone()?;
         scope.spawn(move || check(rt, floor, place, bell, ends))?;
     }
@@ -135,10 +135,10 @@ fn files_of_checks(backend: &BackendConfig) -> usize {
     }
 }
 
-fn copy_of(bell: Option<&Option<Bell>>) -> Result<Option<Bell>, AllocError> {
-    match bell {
-        Some(Some(bell)) => Ok(Some(bell.clone()?)),
-        _ => Ok(None),
+fn bell_at(bells: &[Option<Bell>], place: usize) -> Result<Option<Bell>, AllocError> {
+    match bells.get(place) {
+        Some(bell) => copy_of(bell),
+        None => Ok(None),
     }
 }
 
