@@ -1,5 +1,6 @@
 ghost use Rattle.std.specs.Prelude.{None};
 
+use crate::reports::Reports;
 use check_workers_loop::{Flipped, Flips, flip_line};
 use lb_config::BackendConfig;
 use lb_desk_planner::Bell;
@@ -11,6 +12,7 @@ use std::sync::Wait;
 #[derive(Drop)]
 pub(crate) struct Announcer<'a> {
     pub(crate) alloc: Global,
+    pub(crate) reports: &'a Reports,
     pub(crate) backend: &'a BackendConfig,
     pub(crate) bell: Option<Bell>,
 }
@@ -23,7 +25,7 @@ impl<R: Wait + Eprint> Flips<R> for Announcer<'_> {
             bell.ring(rt);
         }
         if let Ok(line) = self.line_of(flip) {
-            say(rt, &line);
+            self.reports.say(rt, &line);
         }
     }
 }
@@ -40,12 +42,5 @@ impl Announcer<'_> {
             server.name().as_bytes(),
             flip.is_up,
         )
-    }
-}
-
-/// Writes the line to standard error. One that can't be written is left out.
-pub(crate) fn say<R: Eprint>(rt: &R, line: &[u8]) {
-    if let Ok(text) = str::from_utf8(line) {
-        let _ = eprint!(rt; "{text}");
     }
 }

@@ -1,5 +1,9 @@
+ghost use Rattle.std.specs.Prelude.{IfOk, OnOk};
+ghost use Rattle.lb_desk_backend.specs.Configured.{IsBackendOf};
+ghost use Rattle.lb_run.specs.Runs.{AreOpened, ClosedAs, EndsClosed};
+
 use crate::RunFault;
-use lb_config::Config;
+use lb_config::{BackendConfig, Config};
 use lb_desk_model::Entry;
 use lb_desk_shared::{Naming, SharedDesk};
 use lb_desk_tie::Pass;
@@ -15,18 +19,36 @@ pub(crate) fn close_all<B: Naming, W: Write>(
     desks: Vec<SharedDesk<RandomState, B>>,
     passes: Vec<Pass<Entry, B>>,
     out: &mut W,
-) -> Result<(), RunFault> {
+) -> Result<(), RunFault>
+    requires { AreOpened B.opening config.now.backends desks.items }
+    ensures { OnOk result (EndsClosed config.now.backends (W.contents out.old) (W.contents out.new)) }
+{
     let mut passes = passes;
-    for (desk, backend) in desks.into_iter().zip(config.backends()) {
-        match close_desk(alloc, desk, &mut passes)? {
-            ClosedDesk::Closed(closing) => {
-                let line = closed_line(alloc, backend.name().as_bytes(), &closing)?;
-                if out.write_all(&line).is_err() {
-                    return Err(RunFault::CannotWrite);
-                }
-            }
-            ClosedDesk::Open(fault) => return Err(RunFault::StillOpen(fault)),
+    let mut place = 0;
+    for desk in desks {
+        let line = close_one(alloc, &config.backends()[place], desk, &mut passes)?;
+        if out.write_all(&line).is_err() {
+            return Err(RunFault::CannotWrite);
         }
+        place += 1;
     }
     Ok(())
+}
+
+/// Closes the desk of this backend, and makes the line that says so.
+fn close_one<B: Naming>(
+    alloc: Global,
+    backend: &BackendConfig,
+    desk: SharedDesk<RandomState, B>,
+    passes: &mut Vec<Pass<Entry, B>>,
+) -> Result<Vec<u8>, RunFault>
+    requires { IsBackendOf backend.now (B.opening desk) }
+    ensures { IfOk result (λ line. ClosedAs backend.now line.items) }
+{
+    match close_desk(alloc, desk, passes)? {
+        ClosedDesk::Closed(closing) => {
+            Ok(closed_line(alloc, backend.name().as_bytes(), &closing)?)
+        }
+        ClosedDesk::Open(fault) => Err(RunFault::StillOpen(fault)),
+    }
 }

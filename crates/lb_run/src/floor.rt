@@ -1,5 +1,6 @@
 ghost use Rattle.std.specs.Prelude.{◌≡◌, length, IfOk};
 
+use crate::reports::Reports;
 use http_relay_work::Roster;
 use lb_config::{BackendConfig, Config};
 use lb_desk_ports::Refused;
@@ -23,6 +24,7 @@ pub(crate) struct Floor<'a, B: Naming, G: Drop> {
     /// The desks of the configuration's backends, in their order.
     pub(crate) desks: &'a [SharedDesk<RandomState, B>],
     pub(crate) passes: &'a PassBox<B>,
+    pub(crate) reports: &'a Reports,
     /// In which workers note whether they have a request.
     pub(crate) roster: &'a Roster,
     /// How many listeners may hand on clients.

@@ -19,8 +19,10 @@ mod fault;
 mod floor;
 mod host;
 mod job;
+mod reports;
 mod running;
 mod starting;
+mod streams;
 mod threads;
 
 pub use fault::RunFault;

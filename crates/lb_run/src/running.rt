@@ -1,10 +1,13 @@
-ghost use Rattle.std.specs.Prelude.{◌≡◌, length};
-ghost use Rattle.lb_run_desks.specs.NewDesks.{AreNamed};
+ghost use Rattle.std.specs.Prelude.{◌≡◌, length, OnOk};
+ghost use Rattle.lb_run.specs.Runs.{EndsClosed};
+ghost use Rattle.lb_run_desks.specs.NewDesks.{AreNamed, Open};
 
 use crate::closing::close_all;
 use crate::commands::OPERATORS;
 use crate::floor::Floor;
+use crate::reports::Reports;
 use crate::starting::start_and_answer;
+use crate::streams::hold_closed_streams;
 use crate::{Host, RunFault, SharedGate};
 use command_socket_listen::CommandListener;
 use http_relay_work::{MOST_ON_CALL, Roster};
@@ -32,7 +35,9 @@ pub fn run_config<R: Host + Files, W: Write>(
     alloc: Global,
     config: &Config,
     out: &mut W,
-) -> Result<(), RunFault> {
+) -> Result<(), RunFault>
+    ensures closed { OnOk result (EndsClosed config.now.backends (W.contents out.old) (W.contents out.new)) }
+{
     run_config_past(rt, alloc, config, OpenGate, out)
 }
 
@@ -43,7 +48,10 @@ pub fn run_config_past<R: Host + Files, G: SharedGate<R>, W: Write>(
     config: &Config,
     gate: G,
     out: &mut W,
-) -> Result<(), RunFault> {
+) -> Result<(), RunFault>
+    ensures closed { OnOk result (EndsClosed config.now.backends (W.contents out.old) (W.contents out.new)) }
+{
+    let _held = hold_closed_streams(rt);
     let (Ok(hasher), Ok(start)) = (RandomState::new(rt), Instant::now(rt)) else {
         return Err(RunFault::System);
     };
@@ -64,7 +72,8 @@ fn run_named<R: Host + Files, B: Naming + Send + Sync, G: SharedGate<R>, W: Writ
     out: &mut W,
 ) -> Result<(), RunFault>
     requires names { AreNamed B.table_of B.opening desks.items }
-    requires each { length desks.items ≡ length config.now.backends }
+    requires opened { Open config.now.backends desks.items }
+    ensures closed { OnOk result (EndsClosed config.now.backends (W.contents out.old) (W.contents out.new)) }
 {
     let desks = named_desks::<RandomState, B>(alloc, desks)?;
     let passes = PassBox::new(alloc, most_passes(config))?;
@@ -95,6 +104,7 @@ fn serve<R: Host + Files, B: Naming + Send + Sync, G: SharedGate<R>>(
 {
     let stop = AtomicBool::new(false);
     let starved = AtomicBool::new(false);
+    let reports = Reports::new();
     let roster = Roster::new(alloc, config.relays())?;
     let listeners = AtomicUsize::new(0);
     let floor = Floor {
@@ -102,6 +112,7 @@ fn serve<R: Host + Files, B: Naming + Send + Sync, G: SharedGate<R>>(
         config,
         desks,
         passes,
+        reports: &reports,
         roster: &roster,
         listeners: &listeners,
         stop: &stop,

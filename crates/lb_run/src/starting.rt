@@ -1,9 +1,9 @@
 //! Starting threads. Each runs in the scope that it is given, and ends by the flag of the floor or by the end of a channel.
-use crate::announcer::say;
 use crate::bells::copy_of;
 use crate::calling::call_workers;
 use crate::commands::answer_operators;
 use crate::floor::Floor;
+use crate::reports::Reports;
 use crate::threads::{check, listen, plan, relay};
 use crate::{Host, SharedGate};
 use command_socket_listen::CommandListener;
@@ -41,7 +41,7 @@ pub(crate) fn start_and_answer<'s, E, R: Host, B: Naming + Send + Sync, G: Share
     doors: Vec<ClientDoor>,
     operators: Option<&CommandListener>,
 ) -> Result<(), Refused> {
-    say_listening(rt, floor.alloc, &doors)?;
+    say_listening(rt, floor.alloc, floor.reports, &doors)?;
     let (lanes, line) = waiting_line(floor.alloc, doors.len())?;
     let files = other_files(floor.config, &doors);
     let (checks_end, ends) = bounded(floor.alloc, 1)?;
@@ -60,13 +60,18 @@ pub(crate) fn start_and_answer<'s, E, R: Host, B: Naming + Send + Sync, G: Share
 }
 
 /// Writes to standard error where clients can connect.
-fn say_listening<R: Host>(rt: &R, alloc: Global, doors: &[ClientDoor]) -> Result<(), AllocError> {
+fn say_listening<R: Host>(
+    rt: &R,
+    alloc: Global,
+    reports: &Reports,
+    doors: &[ClientDoor],
+) -> Result<(), AllocError> {
     for door in doors {
         let mut line = Vec::new(alloc);
         line.extend_from_slice(b"listening on ")?;
         line.extend_from_slice(&door.address_text(alloc)?)?;
         line.extend_from_slice(b"\n")?;
-        say(rt, &line);
+        reports.say(rt, &line);
     }
     Ok(())
 }

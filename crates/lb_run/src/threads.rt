@@ -122,6 +122,7 @@ fn check_backend<R: Host, B: Naming, G: Drop>(
     let mut clock = SystemClock::new(floor.start);
     let mut flips = Announcer {
         alloc: floor.alloc,
+        reports: floor.reports,
         backend,
         bell,
     };

@@ -1,0 +1,65 @@
+-- Desks that are numbered by their places, and the lines of those that were closed.
+use Rattle.std.proofs.Common.{◌≡◌, ◌<◌, ◌∙◌, ℕ, zero, suc, ◌+◌, List, [], ◌∷◌, ◌++◌, length, take, get_or, Some, slice_get, refl, sym, ap, subst, append_assoc, append-nil, arith}
+use Rattle.lb_config.specs.ConfigViews.{BackendView}
+use Rattle.lb_desk_backend.specs.Configured.{IsBackendOf}
+use Rattle.lb_desk_model.specs.Backends.{BackendParts}
+use Rattle.lb_run_desks.specs.NewDeskView.{NewDeskView}
+use Rattle.lb_run_desks.specs.NewDesks.{Open, numbers, numbers_from}
+use Rattle.lb_run.specs.Runs.{AllClosed, AreOpened, ClosedAs}
+
+opened_from : (opening : ℕ → BackendParts) (n : ℕ) (configs : List BackendView) (desks : List NewDeskView)
+    → ((place : ℕ) (desk : NewDeskView) → slice_get desks place ≡ Some desk → desk.backend ≡ opening (n + place))
+    → Open configs desks → AreOpened opening configs (numbers_from n desks)
+opened_from opening n [] [] named opens = tt
+opened_from opening n [] (d ∷ ds) named opens = absurd opens
+opened_from opening n (c ∷ cs) [] named opens = absurd opens
+opened_from opening n (c ∷ cs) (d ∷ ds) named opens =
+    let here : n + 0 ≡ n = omega arith in
+    let first : d.backend ≡ opening n = subst (λ (m : ℕ). d.backend ≡ opening m) here (named 0 d refl) in
+    (subst (λ (b : BackendParts). IsBackendOf c b) first opens.0,
+        opened_from opening (n + 1) cs ds (λ place desk at.
+            let there : n + suc place ≡ (n + 1) + place = omega arith in
+            subst (λ (m : ℕ). desk.backend ≡ opening m) there (named (suc place) desk at)) opens.1)
+
+-- desks that are named by their places opened as what is configured there
+pub all_opened : (opening : ℕ → BackendParts) (configs : List BackendView) (desks : List NewDeskView)
+    → ((place : ℕ) (desk : NewDeskView) → slice_get desks place ≡ Some desk → desk.backend ≡ opening place)
+    → Open configs desks → AreOpened opening configs (numbers desks)
+all_opened opening configs desks named opens =
+    opened_from opening 0 configs desks (λ place desk at.
+        let same : place ≡ 0 + place = omega arith in
+        subst (λ (m : ℕ). desk.backend ≡ opening m) same (named place desk at)) opens
+
+-- there are as many desks as backends
+pub as_many : (opening : ℕ → BackendParts) (configs : List BackendView) (desks : List ℕ) → AreOpened opening configs desks → length desks ≡ length configs
+as_many opening [] [] are = refl
+as_many opening [] (d ∷ ds) are = absurd are
+as_many opening (c ∷ cs) [] are = absurd are
+as_many opening (c ∷ cs) (d ∷ ds) are = ap suc (as_many opening cs ds are.1)
+
+-- the next desk, of which some are closed
+pub next_opened : (opening : ℕ → BackendParts) (configs : List BackendView) (done later : List ℕ) (desk : ℕ) (config : BackendView)
+    → AreOpened opening configs (done ++ desk ∷ later) → IsBackendOf (get_or configs (length done) config) (opening desk)
+next_opened opening [] [] later desk config are = absurd are
+next_opened opening (c ∷ cs) [] later desk config are = are.0
+next_opened opening [] (d ∷ ds) later desk config are = absurd are
+next_opened opening (c ∷ cs) (d ∷ ds) later desk config are = next_opened opening cs ds later desk config are.1
+
+-- one backend more is closed
+closed_next : (i : ℕ) (configs : List BackendView) (config : BackendView) (text line : List ℕ)
+    → i < length configs → config ≡ get_or configs i config → AllClosed (take i configs) text → ClosedAs config line
+    → AllClosed (take (suc i) configs) (text ++ line)
+closed_next i [] config text line within here closed is = absurd (omega arith)
+closed_next zero (c ∷ cs) config text line within here closed is =
+    (line, [], subst (λ (b : BackendView). ClosedAs b line) here is, refl,
+        ap (λ (l : List ℕ). l ++ line) closed ∙ sym (append-nil line))
+closed_next (suc i) (c ∷ cs) config text line within here closed is =
+    (closed.0, closed.1 ++ line, closed.2, closed_next i cs config (closed.1) line (omega arith) here closed.3 is,
+        ap (λ (l : List ℕ). l ++ line) closed.4 ∙ append_assoc closed.0 closed.1 line)
+
+pub closed_more : (i : ℕ) (configs : List BackendView) (config : BackendView) (text line : List ℕ)
+    → i < length configs → config ≡ get_or configs i config → AllClosed (take i configs) text → ClosedAs config line
+    → AllClosed (take (i + 1) configs) (text ++ line)
+closed_more i configs config text line within here closed is =
+    let same : suc i ≡ i + 1 = omega arith in
+    subst (λ (n : ℕ). AllClosed (take n configs) (text ++ line)) same (closed_next i configs config text line within here closed is)

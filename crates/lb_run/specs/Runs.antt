@@ -1,0 +1,46 @@
+-- What a run of the balancer leaves of each backend's desk, and what it writes at its end. Our own words.
+use Rattle.std.specs.Prelude.{◌≡◌, ℕ, ⊤, Bool, true, false, List, [], ◌∷◌, ◌++◌, Option, Result, Ok, Err}
+use Rattle.std.specs.Io.KnownBytes.{Appends}
+use Rattle.lb_cli_faults.specs.Faults.{fault_line}
+use Rattle.lb_config.specs.ConfigViews.{BackendView, ConfigView}
+use Rattle.lb_config_sections.specs.declared.cause.LocatedFault.{LocatedFault}
+use Rattle.lb_desk_backend.specs.Configured.{IsBackendOf}
+use Rattle.lb_desk_model.specs.declared.entry.Entry.{Entry}
+use Rattle.lb_desk_model.specs.Backends.{BackendParts}
+use Rattle.lb_desk_shared.specs.Closing.{Closes}
+use Rattle.lb_desk_shared.specs.declared.closing.Closing.{Closing}
+use Rattle.lb_desk_tie.specs.Receipts.{PassView}
+use Rattle.lb_run_desks.specs.Closed.{closed_line}
+
+-- The desk of this backend opened as the backend that is configured, it was closed with passes whose receipts share out its one history,
+-- and the line says so
+pub record ClosedAs (config : BackendView) (line : List ℕ) : Type 0 where
+  pub backend : BackendParts
+  pub configured : IsBackendOf config backend
+  pub passes : List (PassView Entry)
+  pub closing : Closing
+  pub closes : Closes backend passes closing
+  pub says : line ≡ closed_line config.name closing
+
+-- the lines of all these backends, in their order
+abbrev pub AllClosed : List BackendView → List ℕ → Type 0
+AllClosed [] text = text ≡ []
+AllClosed (config ∷ configs) text = (line others : List ℕ) × ClosedAs config line × AllClosed configs others × (text ≡ line ++ others)
+
+-- all of them were closed, and these lines went out
+abbrev pub EndsClosed : List BackendView → Option (List ℕ) → Option (List ℕ) → Type 0
+EndsClosed configs old new = (text : List ℕ) × AllClosed configs text × Appends old new text
+
+-- What a run for the text of a configuration writes on standard output, and whether it ended as it should: a fault is written as `check`
+-- writes it. Where it didn't, as where an address can't be bound, nothing is said
+abbrev pub Runs : Result ConfigView LocatedFault → Bool → Option (List ℕ) → Option (List ℕ) → Type 0
+Runs (Err fault) is_well old new = (is_well ≡ false) × Appends old new (fault_line fault)
+Runs (Ok config) true old new = EndsClosed config.backends old new
+Runs (Ok config) false old new = ⊤
+
+-- each of these desks opened as the backend that is configured at its place
+abbrev pub AreOpened : (ℕ → BackendParts) → List BackendView → List ℕ → Type 0
+AreOpened opening [] [] = Unit {0}
+AreOpened opening (config ∷ configs) (desk ∷ desks) = IsBackendOf config (opening desk) × AreOpened opening configs desks
+AreOpened opening [] (desk ∷ desks) = ⊥
+AreOpened opening (config ∷ configs) [] = ⊥
