@@ -15,11 +15,12 @@ opened_from opening n [] (d ∷ ds) named opens = absurd opens
 opened_from opening n (c ∷ cs) [] named opens = absurd opens
 opened_from opening n (c ∷ cs) (d ∷ ds) named opens =
     let here : n + 0 ≡ n = omega arith in
-    let first : d.backend ≡ opening n = subst (λ (m : ℕ). d.backend ≡ opening m) here (named 0 d refl) in
-    (subst (λ (b : BackendParts). IsBackendOf c b) first opens.0,
-        opened_from opening (n + 1) cs ds (λ place desk at.
-            let there : n + suc place ≡ (n + 1) + place = omega arith in
-            subst (λ (m : ℕ). desk.backend ≡ opening m) there (named (suc place) desk at)) opens.1)
+    let first : d.backend ≡ opening n = subst (λ (m : ℕ). d.backend ≡ opening m) here (named 0 d refl) in (
+      subst (λ (b : BackendParts). IsBackendOf c b) first opens.0,
+      opened_from opening (n + 1) cs ds (λ place desk at.
+          let there : n + suc place ≡ (n + 1) + place = omega arith in
+          subst (λ (m : ℕ). desk.backend ≡ opening m) there (named (suc place) desk at)) opens.1,
+    )
 
 -- desks that are named by their places opened as what is configured there
 pub all_opened : (opening : ℕ → BackendParts) (configs : List BackendView) (desks : List NewDeskView)
@@ -27,8 +28,8 @@ pub all_opened : (opening : ℕ → BackendParts) (configs : List BackendView) (
     → Open configs desks → AreOpened opening configs (numbers desks)
 all_opened opening configs desks named opens =
     opened_from opening 0 configs desks (λ place desk at.
-        let same : place ≡ 0 + place = omega arith in
-        subst (λ (m : ℕ). desk.backend ≡ opening m) same (named place desk at)) opens
+    let same : place ≡ 0 + place = omega arith in
+    subst (λ (m : ℕ). desk.backend ≡ opening m) same (named place desk at)) opens
 
 -- there are as many desks as backends
 pub as_many : (opening : ℕ → BackendParts) (configs : List BackendView) (desks : List ℕ) → AreOpened opening configs desks → length desks ≡ length configs
@@ -50,12 +51,20 @@ closed_next : (i : ℕ) (configs : List BackendView) (config : BackendView) (tex
     → i < length configs → config ≡ get_or configs i config → AllClosed (take i configs) text → ClosedAs config line
     → AllClosed (take (suc i) configs) (text ++ line)
 closed_next i [] config text line within here closed is = absurd (omega arith)
-closed_next zero (c ∷ cs) config text line within here closed is =
-    (line, [], subst (λ (b : BackendView). ClosedAs b line) here is, refl,
-        ap (λ (l : List ℕ). l ++ line) closed ∙ sym (append-nil line))
-closed_next (suc i) (c ∷ cs) config text line within here closed is =
-    (closed.0, closed.1 ++ line, closed.2, closed_next i cs config (closed.1) line (omega arith) here closed.3 is,
-        ap (λ (l : List ℕ). l ++ line) closed.4 ∙ append_assoc closed.0 closed.1 line)
+closed_next zero (c ∷ cs) config text line within here closed is = (
+  line,
+  [],
+  subst (λ (b : BackendView). ClosedAs b line) here is,
+  refl,
+  ap (λ (l : List ℕ). l ++ line) closed ∙ sym (append-nil line),
+)
+closed_next (suc i) (c ∷ cs) config text line within here closed is = (
+  closed.0,
+  closed.1 ++ line,
+  closed.2,
+  closed_next i cs config (closed.1) line (omega arith) here closed.3 is,
+  ap (λ (l : List ℕ). l ++ line) closed.4 ∙ append_assoc closed.0 closed.1 line,
+)
 
 pub closed_more : (i : ℕ) (configs : List BackendView) (config : BackendView) (text line : List ℕ)
     → i < length configs → config ≡ get_or configs i config → AllClosed (take i configs) text → ClosedAs config line

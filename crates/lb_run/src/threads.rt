@@ -117,8 +117,7 @@ fn check_backend<R: Host, B: Naming, G: Drop>(
     let (mut seat, backend) = floor.seat_at(rt, place)?;
     let targets = targets_of(floor.alloc, backend)?;
     let mut checks = checks_of(floor.alloc, backend)?;
-    let mut probes =
-        SocketProbes::new(rt, floor.alloc, &targets).map_err(|_| Refused::Memory)?;
+    let mut probes = SocketProbes::new(rt, floor.alloc, &targets).map_err(|_| Refused::Memory)?;
     let mut clock = SystemClock::new(floor.start);
     let mut flips = Announcer {
         alloc: floor.alloc,
