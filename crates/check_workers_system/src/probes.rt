@@ -23,11 +23,7 @@ pub struct SocketProbes<'a, R> {
 impl<'a, R: Net + Clock> SocketProbes<'a, R> {
     /// Probes these servers, which stand at their places in the configuration's order. One without a target is never well. It takes all
     /// its memory here: 16384 bytes for each server whose probes send a request. The error is the system's or out of memory.
-    pub fn new(
-        rt: &'a R,
-        alloc: Global,
-        targets: &[Option<ProbeTarget<'a>>],
-    ) -> io::Result<Self> {
+    pub fn new(rt: &'a R, alloc: Global, targets: &[Option<ProbeTarget<'a>>]) -> io::Result<Self> {
         Ok(SocketProbes {
             talks: Talks::new(rt, alloc, targets)?,
             under_way: [false; MAX_SERVERS],

@@ -74,11 +74,7 @@ impl<'a, R: Net + Clock> Talk<'a, R> {
         };
     }
 
-    fn converse(
-        &mut self,
-        wire: SocketWire<TcpStream>,
-        deadline: Deadline<'a, R>,
-    ) -> Stage<'a, R> {
+    fn converse(&mut self, wire: SocketWire<TcpStream>, deadline: Deadline<'a, R>) -> Stage<'a, R> {
         let mut wire = wire;
         match self.probing.go_on(&mut wire) {
             Some(ok) => Stage::Ended(ok),

@@ -17,7 +17,7 @@ loop-sent-preserved g c =
     let more = take count rest in
     let first = g.W.Wire.written c.args.wire.now in
     let sum : take (sent + count) bytes ≡ take sent bytes ++ more =
-        take_sum bytes sent count sofar.within ∙ ap (λ xs. take sent bytes ++ take count xs) (sym (take_all (length bytes - sent) (drop sent bytes) size)) in
+    take_sum bytes sent count sofar.within ∙ ap (λ xs. take sent bytes ++ take count xs) (sym (take_all (length bytes - sent) (drop sent bytes) size)) in
     record {
       within = grind (arith, common_steps, sofar.within, c.in-Ok.ensures.within);
       written = c.in-Ok.ensures.bytes ∙ ap (λ known. append_known known more) sofar.written ∙ append_twice first (take sent bytes) more ∙ ap (append_known first) (sym sum);
