@@ -1,5 +1,5 @@
 -- What reading does for a probe whose request is sent. Our own.
-use Rattle.std.specs.Prelude.{◌≡◌, ℕ, Bool, List, [], ◌++◌, Option, Some, None}
+use Rattle.std.specs.Prelude.{◌≡◌, ℕ, Bool, List, [], ◌++◌, Option, None}
 use Rattle.std.specs.Io.KnownBytes.{prepend_known}
 use Rattle.http_relay_wire.specs.Wires.{Reading}
 use Rattle.http_relay_wire.specs.declared.fault.FaultCounts.{FaultCounts}

@@ -1,5 +1,4 @@
-use Rattle.std.proofs.Common.{◌≡◌, ◌++◌, ◌-◌, [], length, take, drop, sym, ◌∙◌}
-use Rattle.std.proofs.lemmas.Grind.{common_steps}
+use Rattle.std.proofs.Common.{◌≡◌, ◌-◌, [], length, take, drop, sym}
 use Rattle.check_workers_probe.proofs.Courses.{sends, cut, cut_behind, none_left, goes_on_twice}
 use Rattle.check_workers_probe.proofs.probing.Probing.send.Goals as goal
 
