@@ -2,7 +2,7 @@ use libc::net::{POLLNVAL, poll};
 use libc::types::pollfd;
 use std::fs::{Files, OpenOptions};
 
-/// What was opened in place of standard streams.
+/// What was opened instead of standard streams that were closed.
 #[derive(Drop)]
 pub(crate) struct Held<F: Drop> {
     input: Option<F>,
