@@ -1,4 +1,5 @@
-//! A backend of the configuration as it runs: the one crate under whose names upper layers use a running desk.
+//! A backend of the configuration as it runs, for tests: one crate that has a running desk and all that its callers name. The program
+//! opens its desks by `lb_desk_backend` and `Desk::open` of `lb_desk_step`.
 //!
 //! Promised: `open` gives a desk at the opening of the backend that the configuration is read as, with the journal that it asks
 //! for. `run_world` gives the replies that this backend gives to a list of events. What a desk does from there on is promised by

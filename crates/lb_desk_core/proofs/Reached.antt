@@ -1,5 +1,5 @@
 -- What a core shows is reached.
-use Rattle.std.proofs.Common.{◌≡◌, ℕ, List, [], ◌∷◌, ◌++◌, map, refl, ap, arith}
+use Rattle.std.proofs.Common.{◌≡◌, ℕ, List, [], ◌∷◌, ◌++◌, map, refl, ap}
 use Rattle.lb_desk_model.specs.declared.event.Event.{Event}
 use Rattle.lb_desk_model.specs.declared.reply.Reply.{Reply}
 use Rattle.lb_desk_model.specs.Backends.{BackendParts, IsBackend}
@@ -16,8 +16,7 @@ reached_further old event reply new r steps = record {
   backend = r.backend;
   lawful = r.lawful;
   log = r.log ++ entry event reply ∷ [];
-  reaches = (steps_are_shown r.backend r.log 0 r.log old event reply new
-      (record { reaches = r.reaches; tail = record { is = refl; few = omega arith } }) steps).reaches;
+  reaches = steps_are_shown r.backend r.log old event reply new r.reaches steps;
 }
 
 -- the opening is reached
@@ -26,7 +25,7 @@ reached_opening backend lawful = record {
   backend = backend;
   lawful = lawful;
   log = [];
-  reaches = (opening_is_shown backend).reaches;
+  reaches = opening_is_shown backend;
 }
 
 -- ---- names

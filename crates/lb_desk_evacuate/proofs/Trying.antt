@@ -1,6 +1,7 @@
 -- Tries that fail, one after another, and the last one.
 use Rattle.std.proofs.Common.{◌≡◌, ◌≢◌, ℕ, ◌+◌, ◌-◌, ◌<◌, ◌≤◌, List, [], ◌∷◌, ◌++◌, length, Result, Ok, Err, refl, sym, ap, ◌∙◌, subst, inl, inr, append_assoc, length-append, arith}
 use Rattle.std.proofs.lemmas.List.{append-nil}
+use Rattle.std.proofs.lemmas.List.Elements.{Contains-push}
 use Rattle.pin_set.specs.declared.totals.Score.{Score}
 use Rattle.dual_cert_plan.specs.Plans.{PlanParts}
 use Rattle.dual_cert_plan.specs.Sheets.{SheetParts}
@@ -10,9 +11,9 @@ use Rattle.lb_desk_model.specs.declared.event.Event.TheVariants.{Snapshot, Insta
 use Rattle.lb_desk_model.specs.declared.reply.Reply.TheVariants.{Sheet}
 use Rattle.lb_desk_ports.specs.declared.refused.Refused.{Refused}
 use Rattle.lb_desk_ports.specs.declared.replies.Installing.{Installing}
-use Rattle.lb_desk_ports.specs.declared.replies.Installing.TheVariants.{Installed, Stale, Bad}
+use Rattle.lb_desk_ports.specs.declared.replies.Installing.TheVariants.{Installed, Stale}
 use Rattle.lb_desk_ports.specs.Calls.{entry, counted}
-use Rattle.lb_desk_ports.specs.Movers.{IsPlanFor, PlansNow, snapshot_entries, installing_entries}
+use Rattle.lb_desk_ports.specs.Movers.{IsPlanFor, IsPlanned, PlansNow, snapshot_entries, installing_entries}
 use Rattle.lb_desk_evacuate.specs.declared.evacuating.Evacuation.TheVariants.{Done, AllStale}
 use Rattle.lb_desk_evacuate.specs.Evacuations.{Try, entries_of, all_entries, Fails, AllFail, AddsTry, installing, IsLast, Evacuates}
 
@@ -31,6 +32,15 @@ tried sheet plan (Ok answer) old taken new fit first second =
       joined ∙ append_assoc old (entry Snapshot (Sheet sheet) ∷ []) (installing_entries plan (Ok answer)),
     )
 tried sheet plan (Err refused) old taken new fit first second = inr (sheet, second ∙ append-nil taken ∙ first)
+
+-- a plan for the sheet that was just given
+pub is_planned : (sheet : SheetParts) (plan : PlanParts) (old taken : List Entry) → IsPlanFor sheet plan → taken ≡ old ++ snapshot_entries (Ok sheet)
+    → IsPlanned taken plan
+is_planned sheet plan old taken fit is = record {
+  sheet = sheet;
+  given = rw is (Contains-push old (entry Snapshot (Sheet sheet)));
+  fit = fit;
+}
 
 -- the sheet was taken, and no plan was made for it
 pub sheet_alone : (sheet : SheetParts) (refused : Refused) (old new : List Entry) → new ≡ old ++ snapshot_entries (Ok sheet) → AddsTry (Err refused) old new
@@ -60,7 +70,6 @@ all_entries_snoc (u ∷ us) t =
 one_fails : (answer : Installing) → ((score : Score) → answer ≡ Installed score → ⊥) → Fails answer
 one_fails (Installed score) none = none score refl
 one_fails Stale none = tt
-one_fails (Bad fault) none = tt
 
 pub one_failed_more : (next : ℕ) (answer : Installing) (old between new : List Entry) → HaveFailed next old between
     → AddsTry (Ok answer) between new → ((score : Score) → answer ≡ Installed score → ⊥) → HaveFailed (next + 1) old new

@@ -10,7 +10,7 @@ use Rattle.lb_desk_model.specs.declared.reply.Reply.TheVariants.{Sheet}
 use Rattle.lb_desk_ports.specs.declared.refused.Refused.{Refused}
 use Rattle.lb_desk_ports.specs.declared.refused.Refused.TheVariants.{Memory}
 use Rattle.lb_desk_ports.specs.declared.replies.Installing.{Installing}
-use Rattle.lb_desk_ports.specs.declared.replies.Installing.TheVariants.{Installed, Stale, Bad}
+use Rattle.lb_desk_ports.specs.declared.replies.Installing.TheVariants.{Installed, Stale}
 use Rattle.lb_desk_ports.specs.Calls.{entry, counted}
 use Rattle.lb_desk_ports.specs.Movers.{IsPlanFor, PlansNow, installing_reply}
 use Rattle.lb_desk_evacuate.specs.declared.evacuating.Evacuation.{Evacuation}
@@ -35,7 +35,6 @@ all_entries (t ∷ ts) = entries_of t ++ all_entries ts
 abbrev pub Fails : Installing → Type 0
 Fails (Installed score) = ⊥
 Fails Stale = ⊤
-Fails (Bad fault) = ⊤
 
 abbrev pub AllFail : List Try → Type 0
 AllFail [] = ⊤

@@ -1,8 +1,9 @@
 -- What the calls of a mover make: events of the machine in `lb_desk_model`, each with its reply.
-use Rattle.std.specs.Prelude.{◌≡◌, List, [], ◌∷◌, ◌++◌, Result, Ok, Err, IsOk}
+use Rattle.std.specs.Prelude.{◌≡◌, List, [], ◌∷◌, ◌++◌, Contains, Result, Ok, Err, IsOk}
 use Rattle.pin_set.specs.declared.totals.Score.{Score}
 use Rattle.dual_cert_plan.specs.Plans.{PlanParts}
 use Rattle.dual_cert_plan.specs.Sheets.{SheetParts}
+use Rattle.cert_check.specs.declared.fault.CheckFault.{CheckFault}
 use Rattle.cert_check.specs.Verdict.{verdict}
 use Rattle.lb_desk_model.specs.declared.entry.Entry.{Entry}
 use Rattle.lb_desk_model.specs.declared.event.Event.TheVariants.{Snapshot, Install}
@@ -18,7 +19,6 @@ use Rattle.lb_desk_ports.specs.declared.replies.Installing.TheVariants as instal
 abbrev pub installing_reply : Installing → Reply
 installing_reply (installing.Installed score) = reply.Installed score
 installing_reply installing.Stale = reply.Refused refusal.Stale
-installing_reply (installing.Bad fault) = reply.Refused (refusal.Bad fault)
 
 -- the entries that taking a sheet adds
 abbrev pub snapshot_entries : Result SheetParts Refused → List Entry
@@ -34,6 +34,17 @@ installing_entries plan (Err refused) = []
 pub record IsPlanFor (sheet : SheetParts) (plan : PlanParts) : Type 0 where
   pub version : plan.version ≡ sheet.version
   pub accepted : IsOk (verdict sheet plan)
+
+-- the plan is for a sheet that was given before: a snapshot among the entries was answered with that sheet
+pub record IsPlanned (entries : List Entry) (plan : PlanParts) : Type 0 where
+  pub sheet : SheetParts
+  pub given : Contains entries (entry Snapshot (reply.Sheet sheet))
+  pub fit : IsPlanFor sheet plan
+
+-- no plan for a sheet that was given is answered Bad
+abbrev pub NoneIsBad : List Entry → Type 0
+NoneIsBad entries = (plan : PlanParts) (fault : CheckFault) → IsPlanned entries plan
+    → Contains entries (entry (Install plan) (reply.Refused (refusal.Bad fault))) → ⊥
 
 -- Planning while all others wait adds two entries: that of a sheet, and that of a plan for it, which was installed
 abbrev pub PlansNow : List Entry → List Entry → Result Score Refused → Type 0

@@ -1,7 +1,7 @@
 ghost use Rattle.std.specs.Prelude.{◌≡◌, ◌++◌, ℕ, List};
 ghost use Rattle.lb_desk_model.specs.declared.entry.Entry.{Entry};
 ghost use Rattle.lb_desk_ports.specs.Calls.{after_call, counted};
-ghost use Rattle.lb_desk_ports.specs.Movers.{snapshot_entries, installing_entries, PlansNow};
+ghost use Rattle.lb_desk_ports.specs.Movers.{snapshot_entries, installing_entries, IsPlanned, PlansNow};
 
 use crate::{Installing, Refused};
 use dual_cert_plan::{Plan, Sheet};
@@ -27,8 +27,10 @@ pub trait Mover<R> {
         ensures refusals { refusals self.new ≡ after_call result (refusals self.old) }
         ensures planned_now { planned_now self.new ≡ planned_now self.old };
 
-    /// Makes the plan's moves, if the pins still stand as its sheet says.
+    /// Makes the plan's moves, if the pins still stand as its sheet says. It takes plans for sheets that this mover gave, and no
+    /// others: the check refuses none of these, however late they come and whatever others do in between.
     fn install(&mut self, rt: &R, plan: Plan) -> Result<Installing, Refused>
+        requires planned { IsPlanned (entries self.old) plan }
         ensures entries { entries self.new ≡ entries self.old ++ installing_entries plan result }
         ensures refusals { refusals self.new ≡ after_call result (refusals self.old) }
         ensures planned_now { planned_now self.new ≡ planned_now self.old };

@@ -2,7 +2,6 @@ ghost use Rattle.std.specs.Prelude.{◌≡◌};
 ghost use Rattle.lb_desk_ports.specs.Ports.{asked_reply, opening_reply, shut_reply, filed_reply};
 ghost use Rattle.lb_desk_ports.specs.Movers.{installing_reply};
 
-use cert_check::CheckFault;
 use lb_desk_model::{Refusal, Reply, ServedAs};
 use lb_types::ServerId;
 use pin_set::Score;
@@ -50,15 +49,13 @@ pub enum Filed {
     NotChecked,
 }
 
-/// What a backend answers to a plan.
+/// What a backend answers to a plan for a sheet that it gave. It never answers 71 to one, since no such plan fails the check.
 #[derive(Clone, Copy, Debug, PartialEq, Eq)]
 pub enum Installing {
     /// The plan's moves are made, and this is their score.
     Installed(Score),
     /// 70: the plan is for another version of the table.
     Stale,
-    /// 71: the plan fails the check.
-    Bad(CheckFault),
 }
 
 impl Asked {
@@ -120,7 +117,6 @@ impl Installing {
         match self {
             Installing::Installed(score) => Reply::Installed(score),
             Installing::Stale => Reply::Refused(Refusal::Stale),
-            Installing::Bad(fault) => Reply::Refused(Refusal::Bad(fault)),
         }
     }
 }

@@ -1,8 +1,6 @@
--- Logs that are cut at an install, and their tails.
-use Rattle.std.proofs.Common.{◌≡◌, ◌≢◌, List, ◌∷◌, ◌++◌, take, drop, sym, ap, ◌∙◌, subst, append_assoc, length-append, arith}
+-- Logs that are cut at an install.
+use Rattle.std.proofs.Common.{◌≡◌, ◌≢◌, List, ◌∷◌, ◌++◌, sym, ap, ◌∙◌, subst}
 use Rattle.std.specs.Prelude.{Ok, Err}
-use Rattle.std.proofs.lemmas.List.{take-append-drop, length-take-le}
-use Rattle.std.proofs.Math.Seq.{drop-append_seam}
 use Rattle.pin_set.specs.declared.totals.Score.{Score}
 use Rattle.pin_set.specs.Rows.{rows_score}
 use Rattle.dual_cert_plan.specs.Plans.{PlanParts}
@@ -27,7 +25,7 @@ use Rattle.lb_desk_law.proofs.Parts.{cut}
 use Rattle.lb_desk_law.proofs.Versions.{history-same}
 use Rattle.lb_desk_law.proofs.Worlds.{sheet-moved}
 use Rattle.lb_desk_seen.specs.Accepted.{IsAcceptedFor, OneViewAVersion, AcceptedNow, AcceptedBefore}
-use Rattle.lb_desk_seen.specs.Logs.{IsStaleOrBest, HeadlineOfALog, TailsAreOfLogs, HeadlineOfATail}
+use Rattle.lb_desk_seen.specs.Logs.{IsStaleOrBest, HeadlineOfALog}
 
 -- ---- logs
 
@@ -50,34 +48,6 @@ headline_of_a_log backend log end history early late plan reply e =
       promised = λ at. promised backend early at.old plan reply at.new at.before at.step;
       since = λ at first since point parts before between. stale-once-changed point since at.old plan reply at.new between at.step;
     }
-
--- ---- tails
-
-pub tails_are_of_logs : TailsAreOfLogs
-tails_are_of_logs backend first entries state = (
-  λ tail.
-      let log = tail.forgotten ++ entries in
-      let many = length-append tail.forgotten entries in
-      let as_many = tail.as_many in
-      let is : entries ≡ drop first log = rw (← tail.as_many) (sym (drop-append_seam tail.forgotten entries)) in
-      (log, record { is = is; few = omega arith }, tail.history),
-  λ found. record {
-    forgotten = take first found.0;
-    as_many = length-take-le first found.0 found.1.few;
-    history =
-        let whole : found.0 ≡ take first found.0 ++ entries =
-        sym (take-append-drop first found.0) ∙ ap (λ (es : List Entry). take first found.0 ++ es) (sym found.1.is) in
-        subst (λ (es : List Entry). History (opening backend) es state) whole found.2;
-  },
-)
-
-pub headline_of_a_tail : HeadlineOfATail
-headline_of_a_tail backend first log entries end tail history early late plan reply e =
-    let x = entry (Install plan) reply in
-    let whole : log ≡ take first log ++ (early ++ x ∷ late) =
-    sym (take-append-drop first log) ∙ ap (λ (es : List Entry). take first log ++ es) (sym tail.is ∙ e) in
-    let parted : log ≡ (take first log ++ early) ++ x ∷ late = rw append_assoc whole in
-    headline_of_a_log backend log end history (take first log ++ early) late plan reply parted
 
 -- ---- plans that are accepted
 

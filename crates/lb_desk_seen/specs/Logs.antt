@@ -1,12 +1,11 @@
--- The headline, said of a log: of all entries since the opening of a backend. A journal that forgets old entries is the tail
--- of such a log.
-use Rattle.std.specs.Prelude.{◌≡◌, ◌↔◌, ◌≤◌, ℕ, List, ◌∷◌, ◌++◌, length, take, drop}
+-- The headline, said of a log: of all entries since the opening of a backend.
+use Rattle.std.specs.Prelude.{◌≡◌, List, ◌∷◌, ◌++◌}
 use Rattle.dual_cert_plan.specs.Plans.{PlanParts}
 use Rattle.lb_desk_model.specs.declared.entry.Entry.{Entry}
 use Rattle.lb_desk_model.specs.declared.event.Event.TheVariants.{Install}
 use Rattle.lb_desk_model.specs.declared.reply.Reply.{Reply}
 use Rattle.lb_desk_model.specs.Backends.{BackendParts}
-use Rattle.lb_desk_model.specs.Histories.{History, IsTail}
+use Rattle.lb_desk_model.specs.Histories.{History}
 use Rattle.lb_desk_model.specs.States.{State, opening}
 use Rattle.lb_desk_model.specs.Steps.{Step}
 use Rattle.lb_desk_law.specs.Headline.{IsStaleExactly, IsStaleOnceChanged, KeepsPins, IsLawfulThen, IsBestThen, IsBadExactly}
@@ -49,22 +48,3 @@ abbrev pub HeadlineOfALog : Type 0
 HeadlineOfALog = (backend : BackendParts) (log : List Entry) (end : State) → History (opening backend) log end
     → (early late : List Entry) (plan : PlanParts) (reply : Reply) → log ≡ early ++ entry (Install plan) reply ∷ late
     → Headline backend early plan reply late end
-
--- ---- tails
-
--- the entries are those of the log but for its first ones, which are forgotten
-pub record IsTailOf (first : ℕ) (log entries : List Entry) : Type 0 where
-  pub is : entries ≡ drop first log
-  pub few : first ≤ length log
-
--- entries end a history of the backend exactly where they are the tail of a log that is one
-abbrev pub TailsAreOfLogs : Type 0
-TailsAreOfLogs = (backend : BackendParts) (first : ℕ) (entries : List Entry) (state : State)
-    → IsTail backend first entries state ↔ ((log : List Entry) × IsTailOf first log entries × History (opening backend) log state)
-
--- the headline holds of each install that a tail has, in the log that it is the tail of
-abbrev pub HeadlineOfATail : Type 0
-HeadlineOfATail = (backend : BackendParts) (first : ℕ) (log entries : List Entry) (end : State)
-    → IsTailOf first log entries → History (opening backend) log end
-    → (early late : List Entry) (plan : PlanParts) (reply : Reply) → entries ≡ early ++ entry (Install plan) reply ∷ late
-    → Headline backend (take first log ++ early) plan reply late end

@@ -1,9 +1,8 @@
-//! What a running desk needs of the machine's laws: what it shows of a state, what it counts, and what holds of its journal.
+//! What a running desk needs of the machine's laws: what it shows of a state, what it counts, and what holds of its log.
 //! Private to `lb_desk`.
 //!
-//! Promised: each install of any log since a backend's opening, and so of any journal that is the tail of one, is stale
-//! exactly where the view has changed, or refused as the check refuses it, or best. Each call does nothing: its contract
-//! is a law. Start at `specs/Logs.antt`.
+//! Promised: each install of any log since a backend's opening is stale exactly where the view has changed, or refused as the
+//! check refuses it, or best. Each call does nothing: its contract is a law. Start at `specs/Logs.antt`.
 #![tactic(auto)]
 
 mod counts;

@@ -1,13 +1,10 @@
-ghost use Rattle.lb_desk_seen.specs.Logs.{HeadlineOfALog, TailsAreOfLogs, HeadlineOfATail};
+ghost use Rattle.lb_desk_seen.specs.Logs.{HeadlineOfALog};
 ghost use Rattle.lb_desk_seen.specs.Accepted.{OneViewAVersion, AcceptedNow, AcceptedBefore};
 
-/// Each install of any log since a backend's opening, and of any tail of such a log, is stale exactly where the view has changed, and
-/// then changes nothing. Else it is refused exactly as the check refuses it. Else each pin is kept, and the new places are lawful and
-/// best.
+/// Each install of any log since a backend's opening is stale exactly where the view has changed, and then changes nothing. Else it is
+/// refused exactly as the check refuses it. Else each pin is kept, and the new places are lawful and best.
 pub fn headline_of_logs()
-    ensures log { HeadlineOfALog }
-    ensures tail { TailsAreOfLogs }
-    ensures of_tails { HeadlineOfATail }
+    ensures { HeadlineOfALog }
 {}
 
 /// Two points of a history with one version have one view. So a plan that the check accepts for the view that stands is

@@ -1,6 +1,6 @@
 ghost use Rattle.lb_desk_seen.specs.Changes.{SettingsAreSeen, ResultsAreSeen, ServersAreSeen, ConnectionsAreSeen, ViewsAreSeen, ActsAreCounted};
 ghost use Rattle.lb_desk_seen.specs.Replies.{RepliesTellViews, RepliesTellVersions};
-ghost use Rattle.lb_desk_seen.specs.Reached.{OpeningIsShown, StepsAreShown, OldestIsForgotten, ShownViewsAreLawful};
+ghost use Rattle.lb_desk_seen.specs.Reached.{OpeningIsShown, StepsAreShown, ShownViewsAreLawful};
 
 /// Seeing a server after a change, a check's result or a connection is changing what is seen of it. A state's view, and whether it
 /// changes, follow from what is seen.
@@ -20,11 +20,10 @@ pub fn replies_tell_changes()
     ensures versions { RepliesTellVersions }
 {}
 
-/// A desk whose events are steps of each state that it shows, and which journals them, stands at the end of a log: its
-/// journal is the log's tail, and its view is lawful.
+/// A desk whose events are steps of each state that it shows stands at the end of a log: that of these events, with their replies.
+/// Its view is lawful.
 pub fn desks_go_on()
     ensures opening { OpeningIsShown }
     ensures steps { StepsAreShown }
-    ensures forgets { OldestIsForgotten }
     ensures lawful { ShownViewsAreLawful }
 {}

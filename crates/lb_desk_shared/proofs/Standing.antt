@@ -13,6 +13,7 @@ use Rattle.lb_desk_ports.specs.Calls.{entry}
 use Rattle.lb_desk_step.specs.declared.taken.TakenPlan.{TakenPlan}
 use Rattle.lb_desk_step.specs.Desk.{DeskView, KeepsHeadline, StandsAt, Takes}
 use Rattle.lb_desk_step.specs.Planning.{TakesPlan}
+use Rattle.lb_desk_step.proofs.NeverBad.{none_is_bad}
 use Rattle.lb_desk_tie.specs.Receipts.{IsSound, PassView, Shares, receipts_of, with_receipt}
 use Rattle.lb_desk_shared.specs.declared.closing.CloseFault.{CloseFault}
 use Rattle.lb_desk_shared.specs.declared.closing.CloseFault.TheVariants.{PassesOut, SlotsOut}
@@ -104,5 +105,6 @@ closes_of backend history desk passes rising at keeps shares none rises = record
   receipts = shares;
   none_open = ap open_connections at.reaches.is ∙ none;
   headline = λ early late plan reply is. keeps backend history at early late plan reply is;
+  none_bad = none_is_bad backend history at.reaches.state at.reaches.history;
   rising = rises;
 }

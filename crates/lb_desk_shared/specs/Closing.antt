@@ -1,5 +1,5 @@
 -- What is true of a desk that was closed, and why one can't be closed yet. Our own words.
-use Rattle.std.specs.Prelude.{◌≡◌, ℕ, true, nat_lt, Option, Some, None, List, ◌∷◌, ◌++◌, take, if◌then◌else◌}
+use Rattle.std.specs.Prelude.{◌≡◌, ℕ, true, nat_lt, Option, Some, None, List, ◌∷◌, ◌++◌, if◌then◌else◌}
 use Rattle.dual_cert_plan.specs.Plans.{PlanParts}
 use Rattle.lb_desk_model.specs.declared.entry.Entry.{Entry}
 use Rattle.lb_desk_model.specs.declared.event.Event.TheVariants.{Install}
@@ -10,6 +10,7 @@ use Rattle.lb_desk_model.specs.Seen.{seen}
 use Rattle.lb_desk_model.specs.States.{State, opening}
 use Rattle.lb_desk_model.specs.Worn.{open_connections}
 use Rattle.lb_desk_ports.specs.Calls.{entry}
+use Rattle.lb_desk_ports.specs.Movers.{NoneIsBad}
 use Rattle.lb_desk_seen.specs.Logs.{Headline}
 use Rattle.lb_desk_tail.specs.Tail.{IsTailOf}
 use Rattle.lb_desk_tie.specs.Receipts.{PassView, Shares, receipts_of}
@@ -40,9 +41,11 @@ pub record Closes (backend : BackendParts) (passes : List (PassView Entry)) (clo
   pub receipts : Shares history (receipts_of passes)
   -- no connection is open
   pub none_open : open_connections (seen end) ≡ 0
-  -- each install in the journal is stale exactly where the view had changed, or refused as the check refuses it, or best
+  -- each install of the history, also one that the journal has forgotten, is stale exactly where the view had changed, or refused
+  -- as the check refuses it, or best
   pub headline : (early late : List Entry) (plan : PlanParts) (reply : Reply)
-      → closing.journal.entries ≡ early ++ entry (Install plan) reply ∷ late
-      → Headline backend (take closing.journal.first history ++ early) plan reply late end
+      → history ≡ early ++ entry (Install plan) reply ∷ late → Headline backend early plan reply late end
+  -- no plan for a sheet that was given in the history was answered Bad
+  pub none_bad : NoneIsBad history
   -- in each pass a later call has a greater number
   pub rising : closing.rising ≡ true

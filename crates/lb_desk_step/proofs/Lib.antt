@@ -1,3 +1,4 @@
+pub mod NeverBad
 pub mod Planned
 pub mod Running
 pub mod Stepping

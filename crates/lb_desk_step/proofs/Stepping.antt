@@ -13,30 +13,25 @@ use Rattle.lb_desk_law.specs.Worlds.{entry}
 use Rattle.lb_desk_seen.specs.Counting.{Fits}
 use Rattle.lb_desk_seen.specs.Reached.{Reaches}
 use Rattle.lb_desk_seen.proofs.Counted.{counts_are_few, histories_fit, steps_fit}
-use Rattle.lb_desk_seen.proofs.Logged.{headline_of_a_tail}
+use Rattle.lb_desk_seen.proofs.Logged.{headline_of_a_log}
 use Rattle.lb_desk_seen.proofs.Reaching.{opening_is_shown, steps_are_shown}
 use Rattle.lb_desk_core.specs.Core.{CoreView}
 use Rattle.lb_desk_tail.specs.Tail.{TailView, IsTailOf, empty_tail, with_entry}
 use Rattle.lb_desk_step.specs.Acts.{CanCount, Connects, closed_by, opened_by}
-use Rattle.lb_desk_step.specs.Desk.{DeskView, IsDesk, KeepsHeadline, StandsAt, Takes, is_worn_for, opening_desk, taken}
+use Rattle.lb_desk_step.specs.Desk.{DeskView, IsDesk, KeepsHeadline, KeepsNoneBad, StandsAt, Takes, is_worn_for, opening_desk, taken}
 use Rattle.lb_desk_step.specs.Parts.{AgreeParts, desk_of}
+use Rattle.lb_desk_step.proofs.NeverBad.{none_is_bad}
 
 -- ---- one entry more
 
 abbrev pub EndsLog : TailView Entry → Entry → TailView Entry → Type 0
 EndsLog old e new = (log : List Entry) → IsTailOf log old → IsTailOf (log ++ e ∷ []) new
 
-reaches_further : (backend : BackendParts) (log : List Entry) (old : Seen) (event : Event) (reply : Reply) (new : Seen)
-    → Reaches backend log old → Steps old event reply new → Reaches backend (log ++ entry event reply ∷ []) new
-reaches_further backend log old event reply new r steps =
-    (steps_are_shown backend log 0 log old event reply new
-    (record { reaches = r; tail = record { is = refl; few = omega arith } }) steps).reaches
-
 pub stands_further : (old : DeskView) (event : Event) (reply : Reply) (new : DeskView) → Steps old.shown event reply new.shown
     → EndsLog old.journal (entry event reply) new.journal
     → (backend : BackendParts) (log : List Entry) → StandsAt backend log old → StandsAt backend (log ++ entry event reply ∷ []) new
 stands_further old event reply new steps ends backend log at = record {
-  reaches = reaches_further backend log old.shown event reply new.shown at.reaches steps;
+  reaches = steps_are_shown backend log old.shown event reply new.shown at.reaches steps;
   end = ends log at.end;
 }
 
@@ -145,7 +140,7 @@ opens_empty : (capacity : ℕ) → IsTailOf {E = Entry} [] (empty_tail capacity)
 opens_empty capacity = record { kept = refl; counted = refl; bounded = omega arith }
 
 pub opening_stands : (backend : BackendParts) (capacity : ℕ) → StandsAt backend [] (opening_desk backend capacity)
-opening_stands backend capacity = record { reaches = (opening_is_shown backend).reaches; end = opens_empty capacity }
+opening_stands backend capacity = record { reaches = opening_is_shown backend; end = opens_empty capacity }
 
 pub opening_is_desk : (backend : BackendParts) (capacity : ℕ) → IsBackend backend → IsDesk (opening_desk backend capacity)
 opening_is_desk backend capacity lawful = record {
@@ -170,7 +165,7 @@ opening_parts backend capacity core lawful shown uses =
 -- ---- installs
 
 pub keeps_headline : (desk : DeskView) → KeepsHeadline desk
-keeps_headline desk backend log at early late plan reply e =
-    let counted = at.end.counted in
-    headline_of_a_tail backend desk.journal.first log desk.journal.entries at.reaches.state
-    (record { is = at.end.kept; few = omega arith }) at.reaches.history early late plan reply e
+keeps_headline desk backend log at = headline_of_a_log backend log at.reaches.state at.reaches.history
+
+pub keeps_none_bad : (desk : DeskView) → KeepsNoneBad desk
+keeps_none_bad desk backend log at = none_is_bad backend log at.reaches.state at.reaches.history

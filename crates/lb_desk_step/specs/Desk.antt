@@ -1,6 +1,6 @@
 -- What a running desk is, and what it does with an event. The log is the list of all events that it has taken, each with its
 -- reply; the journal is the log's end. The machine's steps are defined in `lb_desk_model`; the rest is our own.
-use Rattle.std.specs.Prelude.{◌≡◌, ℕ, ◌+◌, Bool, true, false, List, [], ◌∷◌, ◌++◌, length, take}
+use Rattle.std.specs.Prelude.{◌≡◌, ℕ, ◌+◌, Bool, true, false, List, [], ◌∷◌, ◌++◌, length}
 use Rattle.dual_cert_plan.specs.Plans.{PlanParts}
 use Rattle.lb_desk_model.specs.declared.entry.Entry.{Entry}
 use Rattle.lb_desk_model.specs.declared.event.Event.{Event}
@@ -11,6 +11,7 @@ use Rattle.lb_desk_model.specs.Seen.{Seen, Steps, seen}
 use Rattle.lb_desk_model.specs.States.{opening}
 use Rattle.lb_desk_model.specs.Worn.{is_worn}
 use Rattle.lb_desk_law.specs.Worlds.{entry}
+use Rattle.lb_desk_ports.specs.Movers.{NoneIsBad}
 use Rattle.lb_desk_seen.specs.Counting.{Fits}
 use Rattle.lb_desk_seen.specs.Logs.{Headline}
 use Rattle.lb_desk_seen.specs.Reached.{Reaches}
@@ -66,9 +67,13 @@ pub record IsDesk (desk : DeskView) : Type 0 where
   pub stands : StandsAt backend log desk
   pub fits : Fits (taken desk) desk.shown
 
--- of each install in the journal, and whichever log the desk stands at the end of: it is stale exactly where the view has
--- changed, or refused as the check refuses it, or best
+-- Of each install of the whole log, whichever log the desk stands at the end of, and whether or not the journal still has the
+-- install: it is stale exactly where the view had changed, or refused as the check refuses it, or best
 abbrev pub KeepsHeadline : DeskView → Type 0
 KeepsHeadline desk = (backend : BackendParts) (log : List Entry) → (at : StandsAt backend log desk)
-    → (early late : List Entry) (plan : PlanParts) (reply : Reply) → desk.journal.entries ≡ early ++ entry (Install plan) reply ∷ late
-    → Headline backend (take desk.journal.first log ++ early) plan reply late at.reaches.state
+    → (early late : List Entry) (plan : PlanParts) (reply : Reply) → log ≡ early ++ entry (Install plan) reply ∷ late
+    → Headline backend early plan reply late at.reaches.state
+
+-- whichever log the desk stands at the end of, no plan in it for a sheet that was given in it was answered Bad
+abbrev pub KeepsNoneBad : DeskView → Type 0
+KeepsNoneBad desk = (backend : BackendParts) (log : List Entry) → StandsAt backend log desk → NoneIsBad log

@@ -3,7 +3,7 @@ ghost use Rattle.std.specs.Option.{option_to_list};
 ghost use Rattle.lb_desk_model.specs.Worn.{ends_one, open_connections};
 ghost use Rattle.lb_desk_tail.specs.Tail.{leaving};
 ghost use Rattle.lb_desk_step.specs.Planning.{PlansNow, TakesPlan, is_worn_for_two};
-ghost use Rattle.lb_desk_step.specs.Desk.{IsDesk, KeepsHeadline, StandsAt, Takes, is_worn_for, may_take_memory, opening_desk};
+ghost use Rattle.lb_desk_step.specs.Desk.{IsDesk, KeepsHeadline, KeepsNoneBad, StandsAt, Takes, is_worn_for, may_take_memory, opening_desk};
 
 use crate::act::answer;
 use crate::connected::{closed_by, opened_by};
@@ -234,11 +234,12 @@ impl<S: BuildHasher> Desk<S> {
     }
 
     /// Does nothing: what it says holds of every desk. Some log of a lawful backend leads to what it shows, and its journal is the
-    /// end of that log. Each install in the journal is stale exactly where the view had changed, or refused as the check
-    /// refuses it, or best.
+    /// end of that log. Each install of the whole log, also one that the journal has forgotten, is stale exactly where the view had
+    /// changed, or refused as the check refuses it, or best. A plan for a sheet of the log is never answered Bad.
     pub fn stands_at_a_log(&self)
         ensures log { IsDesk self.now }
         ensures headline { KeepsHeadline self.now }
+        ensures none_bad { KeepsNoneBad self.now }
     {
         let _ = &self.connections;
     }
