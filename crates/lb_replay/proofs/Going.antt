@@ -14,9 +14,10 @@ use Rattle.lb_replay_lines.specs.Readings.{ReadingView, IsReadWhole}
 use Rattle.lb_replay.specs.Farms.{FarmView}
 use Rattle.lb_replay.specs.Days.{DayView, Outcome, opening_day}
 use Rattle.lb_replay.specs.Pieces.{AreCut, behind_piece, is_plan_text, piece_at, said_by}
-use Rattle.lb_replay.specs.Answers.{Answers, is_bad}
+use Rattle.lb_replay.specs.Answers.{Answers, IsNotBad, is_bad}
 use Rattle.lb_replay.specs.Replays.{Answered, AreAnswered, IsAnswered, Output, bad_line, day_behind, joined, line_count, log_of, text_of}
-use Rattle.lb_replay.specs.Steps.{Does, GoneSoFar, HasGone, HasPiece, Replays, SaysNext, TakesPiece}
+use Rattle.lb_replay.specs.Steps.{AreGiven, Does, GoneSoFar, HasGone, HasPiece, Replays, SaysNext, TakesPiece}
+use Rattle.lb_replay.proofs.Given.{given_answered, not_bad}
 use Rattle.lb_replay.proofs.Outcomes.{stands_answered}
 
 -- ---- a piece more
@@ -41,17 +42,20 @@ day_more day (d ∷ done) a = day_more d.outcome.day done a
 -- either way a piece begins with its first line
 answers_first : (farm : FarmView) (day : DayView) (line : List ℕ) (more : List (List ℕ)) (is_text : Bool) (outcome : Outcome)
     → Answers farm day (joined (if is_text then line ∷ through_end more else line ∷ [])) (said_by farm line) outcome
+    × IsNotBad (said_by farm line) outcome
     → IsAnswered farm day (if is_text then line ∷ through_end more else line ∷ []) outcome
 answers_first farm day line more true outcome answers = answers
 answers_first farm day line more false outcome answers = answers
 
 -- the piece has a first line, which says what it asks for
 answers_piece : (farm : FarmView) (day : DayView) (line : List ℕ) (more : List (List ℕ)) (said : ScriptLine) (outcome : Outcome)
-    → said_by farm line ≡ Some said → Answers farm day (joined (piece_at farm line more)) (Some said) outcome
+    → said_by farm line ≡ Some said → Answers farm day (joined (piece_at farm line more)) (Some said) outcome → IsNotBad (Some said) outcome
     → IsAnswered farm day (piece_at farm line more) outcome
-answers_piece farm day line more said outcome says answers =
-    answers_first farm day line more (is_plan_text (said_by farm line)) outcome
-    (subst (λ (s : Option ScriptLine). Answers farm day (joined (piece_at farm line more)) s outcome) (sym says) answers)
+answers_piece farm day line more said outcome says answers good =
+    answers_first farm day line more (is_plan_text (said_by farm line)) outcome (
+      subst (λ (s : Option ScriptLine). Answers farm day (joined (piece_at farm line more)) s outcome) (sym says) answers,
+      subst (λ (s : Option ScriptLine). IsNotBad s outcome) (sym says) good,
+    )
 
 module _ (farm : FarmView) (all : List (List ℕ)) (old new : ReadingView) (day behind : DayView) (before mid after : Option (List ℕ)) where
   gone_piece : HasGone farm all old day before mid → (left : List (List ℕ)) → old.left ≡ Some left → (said : ScriptLine) → HasPiece farm left old said new
@@ -62,7 +66,11 @@ module _ (farm : FarmView) (all : List (List ℕ)) (old new : ReadingView) (day 
       let left_is : gone.left ≡ piece.line ∷ piece.more = same_Some _ _ (sym gone.now ∙ is) ∙ piece.split in
       let answers : Answers farm day (joined lines) (Some said) did.outcome =
       subst (λ (t : List ℕ). Answers farm day t (Some said) did.outcome) piece.piece did.is in
-      let here : IsAnswered farm day lines did.outcome = answers_piece farm day piece.line piece.more said did.outcome piece.says answers in
+      let good : IsNotBad (Some said) did.outcome =
+      not_bad farm (log_of gone.done) day (joined lines) said did.outcome answers gone.stands gone.given in
+      let given : AreGiven (log_of gone.done ++ did.outcome.entries) did.outcome.day.sheets =
+      given_answered farm (log_of gone.done) day (joined lines) (Some said) did.outcome answers gone.stands gone.given in
+      let here : IsAnswered farm day lines did.outcome = answers_piece farm day piece.line piece.more said did.outcome piece.says answers good in
       let pushed : map (λ (d : Answered). d.lines) (gone.done ++ a ∷ []) ≡ map (λ d. d.lines) gone.done ++ lines ∷ [] = map_push (λ (d : Answered). d.lines) gone.done a in
       let log_is : log_of (gone.done ++ a ∷ []) ≡ log_of gone.done ++ did.outcome.entries =
       flat_map-append (λ (d : Answered). d.outcome.entries) gone.done (a ∷ []) ∙ ap (λ es. log_of gone.done ++ es) (append-nil did.outcome.entries) in
@@ -88,6 +96,9 @@ module _ (farm : FarmView) (all : List (List ℕ)) (old new : ReadingView) (day 
         stands =
             subst (λ (es : List Entry). StandsAt farm.backend es behind.desk) (sym log_is)
             (subst (λ (d : DayView). StandsAt farm.backend (log_of gone.done ++ did.outcome.entries) d.desk) did.day stands);
+        given =
+            subst (λ (es : List Entry). AreGiven es behind.sheets) (sym log_is)
+            (subst (λ (d : DayView). AreGiven (log_of gone.done ++ did.outcome.entries) d.sheets) did.day given);
         went = subst (Appends before after) (sym text_is) (Appends-then before mid after (text_of gone.done) did.outcome.text gone.went did.went);
         count = omega (arith, piece.count, gone.count, lines_are);
       }
@@ -125,6 +136,7 @@ gone_none farm (Some all) lines day before left count opening stands = record {
   answered = tt;
   arrived = sym opening;
   stands = stands;
+  given = subst (λ (d : DayView). AreGiven [] d.sheets) (sym opening) (λ place sheet at. absurd cc);
   went = Appends-nil before;
   count = count;
 }

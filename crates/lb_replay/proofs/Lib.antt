@@ -1,3 +1,4 @@
+pub mod Given
 pub mod Going
 pub mod LastPlans
 pub mod Outcomes

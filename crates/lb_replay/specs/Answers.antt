@@ -1,19 +1,21 @@
 -- What is answered to each thing that a script asks for. All texts are those of `lb_answers`.
-use Rattle.std.specs.Prelude.{◌≡◌, ℕ, ◌⊎◌, Bool, true, false, is_none, ◌==◌, List, [], ◌∷◌, ◌++◌, Option, Some, None, Result, Ok, Err, codes, slice_get, if◌then◌else◌}
+use Rattle.std.specs.Prelude.{◌≡◌, ℕ, ◌⊎◌, Bool, true, false, is_none, ◌==◌, List, [], ◌∷◌, ◌++◌, Contains, Option, Some, None, Result, Ok, Err, codes, slice_get, if◌then◌else◌}
 use Rattle.pin_set.specs.declared.totals.Score.{Score}
 use Rattle.dual_cert_plan.specs.Plans.{PlanParts}
 use Rattle.dual_cert_plan.specs.Sheets.{SheetParts}
 use Rattle.dual_cert.specs.TextFault.{TextFault}
 use Rattle.dual_cert.specs.Faults.{fault_text}
 use Rattle.dual_cert.specs.PlanTexts.{plan_of_text}
+use Rattle.cert_check.specs.declared.fault.CheckFault.{CheckFault}
 use Rattle.command_socket_words.specs.Faults.{fault_text as command_fault_text}
 use Rattle.command_socket_words.specs.declared.command.Shown.{Shown}
 use Rattle.command_socket_words.specs.declared.command.Shown.TheVariants as Show
 use Rattle.lb_config.specs.ConfigViews.{BackendView}
 use Rattle.lb_desk_model.specs.declared.event.Event.{Event}
 use Rattle.lb_desk_model.specs.declared.event.Event.TheVariants.{Snapshot, Install}
+use Rattle.lb_desk_model.specs.declared.reply.Refusal.TheVariants.{Bad}
 use Rattle.lb_desk_model.specs.declared.reply.Reply.{Reply}
-use Rattle.lb_desk_model.specs.declared.reply.Reply.TheVariants.{Sheet, Installed}
+use Rattle.lb_desk_model.specs.declared.reply.Reply.TheVariants.{Sheet, Installed, Refused}
 use Rattle.lb_desk_law.specs.Worlds.{entry}
 use Rattle.lb_desk_ports.specs.Movers.{IsPlanFor}
 use Rattle.lb_desk_step.specs.Desk.{DeskView, Takes, is_worn_for}
@@ -105,6 +107,12 @@ Answers farm old text (Some Says.PlanText) outcome = AnswersText farm old (plan_
 Answers farm old text (Some (Says.Show what place)) outcome = IsOnlyText old (shown farm old.desk what place) outcome
 Answers farm old text (Some (Says.Refused fault)) outcome = IsOnlyText old (command_fault_text fault ++ codes "\n") outcome
 Answers farm old text None outcome = ⊥
+
+-- the answer to `install` isn't `71 Bad`: its plan is for the sheet of a snapshot
+abbrev pub IsNotBad : Option ScriptLine → Outcome → Type 0
+IsNotBad (Some (Says.Install number)) outcome =
+    (plan : PlanParts) (fault : CheckFault) → Contains outcome.entries (entry (Install plan) (Refused (Bad fault))) → ⊥
+IsNotBad said outcome = Unit {0}
 
 -- nothing is answered: the line is of no form, or names a snapshot that wasn't taken
 abbrev pub is_bad : DayView → Option ScriptLine → Bool

@@ -13,7 +13,7 @@ use Rattle.lb_replay_lines.specs.Lines.{lines_of}
 use Rattle.lb_replay.specs.Farms.{FarmView, IsFarmAt}
 use Rattle.lb_replay.specs.Days.{DayView, Outcome, opening_day}
 use Rattle.lb_replay.specs.Pieces.{AreCut, said_by}
-use Rattle.lb_replay.specs.Answers.{Answers, is_bad}
+use Rattle.lb_replay.specs.Answers.{Answers, IsNotBad, is_bad}
 
 -- a piece of the script, and what it came to
 pub record Answered : Type 0 where
@@ -30,10 +30,11 @@ pub record Output : Type 0 where
 abbrev pub joined : List (List ℕ) → List ℕ
 joined lines = flat_map (λ line. line) lines
 
--- the piece of these lines is answered so: its first line says what it asks for
+-- the piece of these lines is answered so: its first line says what it asks for, and a plan for a snapshot's sheet is never refused as Bad
 abbrev pub IsAnswered : FarmView → DayView → List (List ℕ) → Outcome → Type 0
 IsAnswered farm day [] outcome = ⊥
-IsAnswered farm day (line ∷ more) outcome = Answers farm day (joined (line ∷ more)) (said_by farm line) outcome
+IsAnswered farm day (line ∷ more) outcome =
+    Answers farm day (joined (line ∷ more)) (said_by farm line) outcome × IsNotBad (said_by farm line) outcome
 
 -- each piece is answered as the day stands behind those before it
 abbrev pub AreAnswered : FarmView → DayView → List Answered → Type 0

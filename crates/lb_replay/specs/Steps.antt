@@ -1,6 +1,11 @@
 -- A replay as far as it has come. No public clause cites this module.
-use Rattle.std.specs.Prelude.{◌≡◌, ℕ, ⊤, ◌+◌, Bool, true, false, List, [], ◌∷◌, Option, Some, None, length, map}
+use Rattle.std.specs.Prelude.{◌≡◌, ℕ, ⊤, ◌+◌, Bool, true, false, List, [], ◌∷◌, Contains, Option, Some, None, length, map, slice_get}
 use Rattle.std.specs.Io.KnownBytes.{Appends}
+use Rattle.dual_cert_plan.specs.Sheets.{SheetParts}
+use Rattle.lb_desk_model.specs.declared.entry.Entry.{Entry}
+use Rattle.lb_desk_model.specs.declared.event.Event.TheVariants.{Snapshot}
+use Rattle.lb_desk_model.specs.declared.reply.Reply.TheVariants.{Sheet}
+use Rattle.lb_desk_law.specs.Worlds.{entry}
 use Rattle.lb_desk_step.specs.Desk.{StandsAt}
 use Rattle.lb_script.specs.declared.script_line.ScriptLine.{ScriptLine}
 use Rattle.lb_replay_lines.specs.Readings.{ReadingView, IsReadWhole}
@@ -48,6 +53,10 @@ ReadsPiece farm old new (Said said) = TakesPiece farm old.left old said new × (
 
 -- ---- the whole
 
+-- each of the sheets was given by a snapshot of the log
+abbrev pub AreGiven : List Entry → List SheetParts → Type 0
+AreGiven log sheets = (place : ℕ) (sheet : SheetParts) → slice_get sheets place ≡ Some sheet → Contains log (entry Snapshot (Sheet sheet))
+
 -- the lines so far are answered, and the others are left
 pub record HasGone (farm : FarmView) (all : List (List ℕ)) (lines : ReadingView) (day : DayView) (before after : Option (List ℕ)) : Type 0 where
   pub done : List Answered
@@ -57,6 +66,7 @@ pub record HasGone (farm : FarmView) (all : List (List ℕ)) (lines : ReadingVie
   pub answered : AreAnswered farm (opening_day farm) done
   pub arrived : day_behind (opening_day farm) done ≡ day
   pub stands : StandsAt farm.backend (log_of done) day.desk
+  pub given : AreGiven (log_of done) day.sheets
   pub went : Appends before after (text_of done)
   pub count : lines.count ≡ line_count done
 
