@@ -29,5 +29,4 @@ filed_of other = filed.NoSuchServer
 
 abbrev pub installing_of : Reply → Installing
 installing_of (reply.Installed score) = installing.Installed score
-installing_of (reply.Refused (refusal.Bad fault)) = installing.Bad fault
 installing_of other = installing.Stale

@@ -1,4 +1,4 @@
-ghost use Rattle.lb_desk_ports.specs.Movers.{installing_entries, snapshot_entries};
+ghost use Rattle.lb_desk_ports.specs.Movers.{IsPlanned, installing_entries, snapshot_entries};
 ghost use Rattle.lb_desk_seat.specs.Seats.{Adds, entries_at};
 
 use crate::Seat;
@@ -21,7 +21,9 @@ impl<S: BuildHasher, B: Naming> Seat<'_, S, B> {
         Ok(sheet)
     }
 
+    /// Takes a plan for a sheet that this seat was given to the desk, which therefore never refuses it as Bad.
     fn hand_in<R: Wait>(&mut self, rt: &R, plan: Plan) -> Result<Installing, Refused>
+        requires planned { IsPlanned (entries_at self.old) plan }
         ensures { Adds self.old self.new (installing_entries plan result) }
     {
         let plan = Shared::new(self.alloc, plan)?;
@@ -49,6 +51,7 @@ impl<R: Wait, S: BuildHasher, B: Naming> Mover<R> for Seat<'_, S, B> {
         answer
     }
 
+    #[tactic(auto, using(crate::proofs::Asking::plan_adds))]
     fn plan_now(&mut self, rt: &R) -> Result<Score, Refused> {
         self.planned_now = self.planned_now.saturating_add(1);
         let answer = self.desk.plan_now(rt, &mut self.pass);

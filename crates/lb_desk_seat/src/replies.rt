@@ -27,13 +27,12 @@ pub(crate) fn filed(reply: &Reply) -> Filed
     }
 }
 
-/// The answer to a plan, from a desk's reply to it.
+/// The answer to a plan for a sheet that the desk gave, from the desk's reply to it.
 pub(crate) fn installing(reply: &Reply) -> Installing
     ensures { result ≡ installing_of reply.now }
 {
     match reply {
         Reply::Installed(score) => Installing::Installed(*score),
-        Reply::Refused(Refusal::Bad(fault)) => Installing::Bad(*fault),
         _ => Installing::Stale,
     }
 }

@@ -1,10 +1,8 @@
 //! Random calls of one thread at one desk.
 
 use crate::Events;
-use dual_cert_plan::Sheet;
-use flow_planner::plan;
-use lb_desk_model::Shared;
-use lb_desk_ports::{Asked, Mover, Opening, Port, Refused, Shut};
+use lb_desk_evacuate::evacuate;
+use lb_desk_ports::{Asked, Mover, OpenGate, Opening, Port, Refused, Shut};
 use lb_desk_seat::Seat;
 use lb_desk_shared::Naming;
 use lb_desk_steer::Steer;
@@ -49,8 +47,6 @@ impl Calls {
 pub(crate) struct Visitor<'a, S: BuildHasher, B: Naming> {
     seat: Seat<'a, S, B>,
     calls: Calls,
-    /// A sheet that no plan was made for yet.
-    sheet: Option<Shared<Sheet>>,
 }
 
 impl<'a, S: BuildHasher, B: Naming> Visitor<'a, S, B> {
@@ -58,7 +54,6 @@ impl<'a, S: BuildHasher, B: Naming> Visitor<'a, S, B> {
         Visitor {
             seat,
             calls: Calls::none(),
-            sheet: None,
         }
     }
 
@@ -124,9 +119,12 @@ impl<'a, S: BuildHasher, B: Naming> Visitor<'a, S, B> {
     ) -> Result<(), Refused> {
         self.calls.count();
         match events.dice().roll(8) {
-            0 => self.install(rt, alloc),
+            0 => {
+                evacuate(rt, alloc, &mut self.seat, &OpenGate, 2)?;
+                Ok(())
+            }
             1 => {
-                self.sheet = Some(self.seat.snapshot(rt)?);
+                self.seat.snapshot(rt)?;
                 Ok(())
             }
             2 => {
@@ -147,16 +145,5 @@ impl<'a, S: BuildHasher, B: Naming> Visitor<'a, S, B> {
                 Ok(())
             }
         }
-    }
-
-    /// Installs a plan for the sheet that was taken before, which others may have made stale; or takes one.
-    fn install<R: Wait>(&mut self, rt: &R, alloc: Global) -> Result<(), Refused> {
-        let Some(sheet) = self.sheet.take() else {
-            self.sheet = Some(self.seat.snapshot(rt)?);
-            return Ok(());
-        };
-        let made = plan(alloc, &sheet)?.into_plan();
-        Mover::install(&mut self.seat, rt, made)?;
-        Ok(())
     }
 }
