@@ -68,7 +68,7 @@ fn connections_have_their_limits(rt: HostRuntime) -> Result<(), Fail> {
             },
         );
         gathered?;
-        let arrival = arrival.ok_or(ErrorKind::TimedOut)?;
+        let arrival = arrival.ok_or("an arrival")?;
         let stream = &arrival.stream;
         assert!(rt;
             is_limit(*read, stream.read_timeout()?)
