@@ -1,6 +1,6 @@
 //! Random calls of one thread at one desk.
 
-use crate::Events;
+use crate::events::Events;
 use dual_cert_plan::Sheet;
 use flow_planner::plan;
 use lb_desk_model::Shared;
