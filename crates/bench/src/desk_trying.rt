@@ -1,43 +1,14 @@
-//! Random events at desks beside the plain machine, and random calls of threads: what came of it, as it is printed.
+//! Random calls of threads at desks: what came of it, as it is printed.
 
-use anyhow::{Result, bail};
-use lb_desk_tried::{Tried, try_events, try_threads};
+use anyhow::Result;
+use lb_desk_tried::try_threads;
 use std::alloc::Global;
-use std::hash::{BuildHasherDefault, FoldHasher, RandomState};
 use std::random::RandomSource;
 use std::rt::Runtime;
 use std::sync::Wait;
 use std::thread::Threads;
 
 const THREADS: u32 = 8;
-
-/// Tries so many events under each of two hashers.
-pub(crate) fn try_random<R: Runtime + RandomSource>(
-    rt: &R,
-    alloc: Global,
-    events: u32,
-) -> Result<()> {
-    let seeded = try_events(alloc, RandomState::new(rt)?, u64::from(events))?;
-    tell(rt, alloc, "a seeded hasher", &seeded)?;
-    let fixed = BuildHasherDefault::<FoldHasher>::new();
-    let unseeded = try_events(alloc, fixed, u64::from(events))?;
-    tell(rt, alloc, "a hasher of fixed seed", &unseeded)
-}
-
-/// Prints what was tried; the counts of each kind of reply go to standard error.
-fn tell(rt: &impl Runtime, alloc: Global, hasher: &str, tried: &Tried) -> Result<()> {
-    let (came, kinds) = tried.kinds.came();
-    println!(rt;
-        "{hasher}: {} events at {} farms, {came} of {kinds} kinds of replies",
-        tried.events, tried.farms
-    )?;
-    eprintln!(rt; "{}", tried.kinds.text(alloc)?)?;
-    match &tried.found {
-        None => println!(rt; "{hasher}: desk and machine agree")?,
-        Some(found) => bail!("{hasher}: {found}"),
-    }
-    Ok(())
-}
 
 /// Lets threads make so many calls each.
 pub(crate) fn try_many_threads<R: Runtime + Threads + Wait + RandomSource + Sync>(

@@ -1,7 +1,7 @@
-//! The table of pins, a running desk, and a desk that threads share: measured, and tried with random events. The words are numbers: of
+//! The table of pins, a running desk, and a desk that threads share: measured, and tried by threads that make random calls. The words are numbers: of
 //! pins, and of what else the measurement asks for.
 
-use crate::desk_trying::{try_many_threads, try_random};
+use crate::desk_trying::try_many_threads;
 use anyhow::{Context, Result, bail};
 use bench_parts::{measure_desk, measure_shared, measure_table};
 use lb_types::MAX_PINS;
@@ -17,7 +17,6 @@ pub(crate) enum What {
     Table,
     Desk,
     Shared,
-    Random,
     Threads,
 }
 
@@ -31,7 +30,6 @@ pub(crate) fn run<R: Runtime + Threads + Wait + RandomSource + Sync>(
         What::Table => measure_table(rt, alloc, number(words, 0)?),
         What::Desk => measure_desk(rt, alloc, number(words, 0)?, number(words, 1)?),
         What::Shared => measure_shared(rt, alloc, number(words, 0)?, number(words, 1)?),
-        What::Random => try_random(rt, alloc, number(words, 0)?),
         What::Threads => try_many_threads(rt, alloc, number(words, 0)?),
     }
 }

@@ -34,7 +34,6 @@ const SMALL: &[&str] = &[
     "table 1000",
     "desk 1000 1000",
     "shared 1000 100",
-    "random 20000",
     "threads 1000",
 ];
 
@@ -84,10 +83,9 @@ fn measure<R: Runtime + Threads + Wait + RandomSource + Sync>(
         "table" => What::Table,
         "desk" => What::Desk,
         "shared" => What::Shared,
-        "random" => What::Random,
         "threads" => What::Threads,
         _ => bail!(
-            "plan, spread, write-plan, relay, read-config, small-farms, table, desk, shared, random, threads or all-small"
+            "plan, spread, write-plan, relay, read-config, small-farms, table, desk, shared, threads or all-small"
         ),
     };
     desks::run(rt, alloc, what, words)

@@ -1,39 +1,14 @@
-//! The list of events at the plain machine and at a running desk.
+//! The list of events at a running desk.
 
 use crate::backends::two;
 use crate::entries::{COUNT, VERSION, entries};
 use lb_desk_model::{Entry, Event, Reply};
-use lb_desk_plain::Machine;
 use lb_desk_step::Desk;
-use std::alloc::Global;
 use std::hash::{BuildHasherDefault, FoldHasher};
 use std::process::Abort;
 use std::test::Fail;
 
 type HashedDesk = Desk<BuildHasherDefault<FoldHasher>>;
-
-#[test]
-fn the_plain_machine_answers_in_one_run(rt: HostRuntime) -> Result<(), Fail> {
-    let entries = entries(rt.alloc())?;
-    let (replies, version) = run(rt.alloc(), &entries)?;
-    assert_eq!(rt; (replies.len(), version), (COUNT, VERSION));
-    for (number, entry) in entries.iter().enumerate() {
-        assert!(rt; replies.get(number) == Some(&entry.reply), "event {number}");
-    }
-    Ok(())
-}
-
-/// The machine's replies, and its version after them.
-fn run(alloc: Global, entries: &[Entry]) -> Result<(Vec<Reply>, u64), Fail> {
-    let backend = two(alloc)?;
-    let mut machine = Machine::open(alloc, &backend)?;
-    let mut events = Vec::new(alloc);
-    for entry in entries {
-        events.push(entry.event.clone()?)?;
-    }
-    let replies = machine.run(alloc, &events)?;
-    Ok((replies, machine.state().version()))
-}
 
 #[test]
 fn a_desk_answers_event_by_event(rt: HostRuntime) -> Result<(), Fail> {

@@ -2,8 +2,9 @@
 ghost use Rattle.std.specs.Prelude.{◌≡◌, IfOk};
 ghost use Rattle.lb_desk_tie.specs.Receipts.{AreOf};
 
+use crate::events::Events;
 use crate::visits::{Calls, Visitor};
-use crate::{Events, JournalFault, backend_in, judge};
+use crate::{JournalFault, backend_in, judge};
 use anyhow::{Context, Result, bail};
 use lb_desk_model::{Backend, Entry};
 use lb_desk_ports::Refused;

@@ -1,6 +1,6 @@
 //! Random calls of one thread at one desk.
 
-use crate::Events;
+use crate::events::Events;
 use lb_desk_evacuate::evacuate;
 use lb_desk_ports::{Asked, Mover, OpenGate, Opening, Port, Refused, Shut};
 use lb_desk_seat::Seat;

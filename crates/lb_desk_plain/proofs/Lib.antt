@@ -1,3 +1,0 @@
-pub mod Further
-pub mod Mapped
-pub mod SamePins

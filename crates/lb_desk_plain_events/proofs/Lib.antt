@@ -1,4 +1,0 @@
-pub mod Alike
-pub mod Expired
-pub mod Places
-pub mod Served
