@@ -1,7 +1,7 @@
 //! The machine that one backend is: its events, its replies, and what each event does.
 //!
 //! Of what runs, copies alone are promised: each equals what it is a copy of. The definitions in `specs/` say which reply
-//! goes with which event and what state follows. `lb_desk_law` proves what they are worth, `lb_desk_plain` is a machine that
+//! goes with which event and what state follows. `lb_desk_law` proves what they are worth, and the desk of `lb_desk_step`
 //! meets them. Start at `specs/Steps.antt`.
 #![tactic(auto)]
 
