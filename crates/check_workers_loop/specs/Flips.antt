@@ -7,8 +7,7 @@ use Rattle.server_state.specs.declared.checked.Checked.TheVariants as checked
 use Rattle.lb_desk_ports.specs.declared.refused.Refused.{Refused}
 use Rattle.lb_desk_ports.specs.declared.replies.Filed.{Filed}
 use Rattle.lb_desk_ports.specs.declared.replies.Filed.TheVariants as filed
-use Rattle.check_workers_round.specs.declared.outcome.Outcome.{Outcome}
-use Rattle.check_workers_round.specs.declared.outcome.Outcome.TheVariants.{Made, NotDue, NoChecks}
+use Rattle.check_workers_round.specs.declared.outcome.CheckMade.{CheckMade}
 use Rattle.check_workers_loop.specs.declared.flips.Flipped.{Flipped}
 
 -- the server went up, or down
@@ -29,11 +28,10 @@ flip_filed server (Ok filed.NoSuchServer) = None
 flip_filed server (Ok filed.NotChecked) = None
 flip_filed server (Err refused) = None
 
--- the server that a round made go up or down, if it did
-abbrev pub flip_of : Outcome → Option Flipped
-flip_of (Made made) = flip_filed made.server made.filed
-flip_of (NotDue wait) = None
-flip_of NoChecks = None
+-- the server that a check made go up or down, if one was made and did
+abbrev pub flip_of : Option CheckMade → Option Flipped
+flip_of (Some made) = flip_filed made.server made.filed
+flip_of None = None
 
 -- how a line says it
 abbrev pub state_word : Bool → List ℕ

@@ -3,7 +3,7 @@ ghost use Rattle.std.specs.Option.{option_to_list};
 ghost use Rattle.lb_desk_ports.specs.Calls.{Grows};
 ghost use Rattle.check_workers_loop.specs.Flips.{flip_by, flip_filed, flip_line, flip_of, flipped};
 
-use check_workers_round::Outcome;
+use check_workers_round::CheckMade;
 use lb_desk_ports::{Filed, Refused};
 use lb_types::ServerId;
 use rise_fall::Flip;
@@ -30,22 +30,20 @@ pub trait Flips<R> {
         ensures told { Grows (told self.old) (told self.new) (flip ∷ []) };
 }
 
-/// Reports the flip that the round made, if it made one.
-pub(crate) fn tell_flip<R, F: Flips<R>>(rt: &R, flips: &mut F, outcome: &Outcome)
-    ensures { Grows (F.told flips.old) (F.told flips.new) (option_to_list (flip_of outcome.now)) }
+/// Reports the flip that the check made, if one was made and did.
+pub(crate) fn tell_flip<R, F: Flips<R>>(rt: &R, flips: &mut F, made: Option<CheckMade>)
+    ensures { Grows (F.told flips.old) (F.told flips.new) (option_to_list (flip_of made)) }
 {
-    if let Some(flip) = flip_of(outcome) {
+    if let Some(flip) = flip_of(made) {
         flips.tell(rt, flip);
     }
 }
 
-fn flip_of(outcome: &Outcome) -> Option<Flipped>
-    ensures { result ≡ flip_of outcome.now }
+fn flip_of(made: Option<CheckMade>) -> Option<Flipped>
+    ensures { result ≡ flip_of made }
 {
-    match outcome {
-        Outcome::Made(made) => flip_filed(made.server, made.filed),
-        Outcome::NotDue(_) | Outcome::NoChecks => None,
-    }
+    let made = made?;
+    flip_filed(made.server, made.filed)
 }
 
 fn flip_filed(server: ServerId, filed: Result<Filed, Refused>) -> Option<Flipped>

@@ -1,2 +1,2 @@
-pub mod Requests
+pub mod Courses
 pub mod Responses

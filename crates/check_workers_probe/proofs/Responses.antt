@@ -1,16 +1,12 @@
 -- Why bytes never become a success, whatever follows them.
-use Rattle.std.proofs.Common.{◌≡◌, ℕ, ◌<◌, ◌≤◌, List, [], length, length-append, drop, arith, false, append-nil, ap, sym, ◌∙◌, subst}
-use Rattle.std.proofs.lemmas.Grind.{common_steps}
+use Rattle.std.proofs.Common.{ℕ, ◌≤◌, List, length, drop, arith, ap, sym, ◌∙◌, subst}
 use Rattle.httparse.specs.Grammar.{ResponseHead, HasNoResponse, print_response, status_code}
 use Rattle.httparse.specs.Spans.{IsResponseAt}
 use Rattle.httparse.specs.declared.spans.HeaderSpan.{HeaderSpan}
 use Rattle.httparse.specs.declared.spans.ResponseSpans.{ResponseSpans}
 use Rattle.httparse.proofs.GrammarLemmas.{response_prefix_free}
-use Rattle.std.specs.Io.KnownBytes.{prepend_known}
-use Rattle.http_relay_wire.specs.Wires.{Reading}
 use Rattle.http_relay_wire.proofs.Rooms.{front_within}
-use Rattle.http_relay_wire.specs.declared.fault.FaultCounts.{FaultCounts}
-use Rattle.check_workers_probe.specs.Probes.{BeginsWithSuccess, NeverBeginsWithSuccess, HasReason, Probed}
+use Rattle.check_workers_probe.specs.Probes.{BeginsWithSuccess, NeverBeginsWithSuccess}
 
 -- a head with another status stands at the front, and no other head can
 pub other_status : (text : List ℕ) (headers : List HeaderSpan) (spans : ResponseSpans) (head : ResponseHead)
@@ -26,28 +22,3 @@ too_long text none full more (head, rest, success) =
     let enough : length (print_response head) ≤ length text = omega (arith, success.size, full) in
     none head (drop (length (print_response head)) text)
     (success.reads.0, front_within text more (print_response head) rest success.reads.1 enough)
-
--- what never begins so doesn't begin so as it is
-pub not_yet : (text : List ℕ) → NeverBeginsWithSuccess text → ¬ BeginsWithSuccess text
-not_yet text never success = never [] (subst BeginsWithSuccess (sym (append-nil text)) success)
-
--- without a head there is no success
-pub none_yet : (text : List ℕ) → HasNoResponse text → ¬ BeginsWithSuccess text
-none_yet text none (head, rest, success) = none head rest success.reads
-
--- a probe that says no
-pub says_no : (text : List ℕ) (old new : Reading) (before after : FaultCounts) → old.unread ≡ prepend_known text new.unread
-    → ¬ BeginsWithSuccess text → HasReason text new before after → Probed old new before after false
-says_no text old new before after read not reason =
-    record { text = text; read = read; yes = λ wrong. absurd cc; calm = λ wrong. absurd cc; only = λ success. absurd (not success); no = λ _. reason }
-
--- a head has bytes
-printed : (head : ResponseHead) → 0 < length (print_response head)
-unfolding print_response
-printed head = grind (arith, common_steps)
-
--- nothing is no success
-pub nothing_begins_so : ¬ BeginsWithSuccess []
-nothing_begins_so (head, rest, success) =
-    let size = ap length success.reads.1 ∙ length-append (print_response head) rest in
-    absurd (omega (arith, size, printed head))

@@ -1,1 +1,3 @@
+pub mod Probing
 pub mod Rounds
+pub mod Sooner

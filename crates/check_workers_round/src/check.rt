@@ -1,6 +1,8 @@
-ghost use Rattle.std.specs.Prelude.{◌≡◌, ◌+◌, ◌-◌, ◌^◌, ◌↔◌, min, [], IfSome, IsNone};
-ghost use Rattle.check_workers_round.specs.Rounds.{IsFirst};
+ghost use Rattle.std.specs.Prelude.{◌≡◌, ◌+◌, ◌-◌, ◌^◌, min, IfSome, IfNone, All};
+ghost use Rattle.check_workers_round.specs.Rounds.{IsFirst, IsFree};
+ghost use Rattle.check_workers_round.specs.Sooner.{is_sooner};
 
+use crate::Probes;
 use lb_types::{Moment, ServerId};
 
 /// When a server is checked.
@@ -27,24 +29,30 @@ pub(crate) fn wait_until(moment: Moment, end: Moment) -> u64
     end.as_millis().saturating_sub(moment.as_millis())
 }
 
-/// The check that is due first, if there is one, with its place before it. It costs a look at each.
-pub(crate) fn first_due(checks: &[Check]) -> Option<(usize, Check)>
-    ensures some { IfSome result (λ found. IsFirst checks.now found.0 found.1) }
-    ensures none { IsNone result ↔ (checks.now ≡ []) }
+/// Of the checks whose servers aren't being probed the one that is due first, if there is one, with its place before it. It costs a look
+/// at each.
+pub(crate) fn first_due<P: Probes>(probes: &P, checks: &[Check]) -> Option<(usize, Check)>
+    ensures some { IfSome result (λ found. IsFirst (P.under_way probes.now) checks.now found.0 found.1) }
+    ensures none { IfNone result (All (λ check. ¬ IsFree (P.under_way probes.now) check) checks.now) }
 {
-    if checks.is_empty() {
-        return None;
-    }
-    let mut first = 0;
-    let mut best = checks[0];
-    let mut place = 1;
+    let mut found = None;
+    let mut place = 0;
     while place < checks.len() {
         let check = checks[place];
-        if check.due.as_millis() < best.due.as_millis() {
-            first = place;
-            best = check;
+        if !probes.is_under_way(check.server) && is_sooner(&check, &found) {
+            found = Some((place, check));
         }
         place += 1;
     }
-    Some((first, best))
+    found
+}
+
+/// Whether the check is due before the one that was found so far, if one was.
+fn is_sooner(check: &Check, found: &Option<(usize, Check)>) -> bool
+    ensures { result ≡ is_sooner check.now found.now }
+{
+    match found {
+        Some((_, first)) => check.due.as_millis() < first.due.as_millis(),
+        None => true,
+    }
 }

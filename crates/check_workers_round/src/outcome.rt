@@ -11,20 +11,22 @@ pub struct CheckMade {
     pub filed: Result<Filed, Refused>,
 }
 
-/// What a round did.
+/// How a round began.
 #[derive(Clone, Copy, Debug, PartialEq, Eq)]
-pub enum Outcome {
-    /// The check that was due first was made.
-    Made(CheckMade),
-    /// None is due for so many milliseconds, at least 1.
+pub enum Beginning {
+    /// A probe of this server was begun: of those that aren't being probed its check was due first.
+    Begun(ServerId),
+    /// None of their checks is due for so many milliseconds, at least 1.
     NotDue(u64),
-    /// There is no check.
-    NoChecks,
+    /// Each server is being probed, or there is no check.
+    NoneFree,
 }
 
 /// A round, and the moment at which it began.
 #[derive(Clone, Copy, Debug, PartialEq, Eq)]
 pub struct Round {
     pub begun: Moment,
-    pub outcome: Outcome,
+    pub beginning: Beginning,
+    /// The check whose probe has ended, if one has.
+    pub made: Option<CheckMade>,
 }

@@ -1,65 +1,118 @@
-ghost use Rattle.std.specs.Prelude.{◌≡◌, ◌∷◌, Some, []};
-ghost use Rattle.std.specs.Option.{option_map};
+ghost use Rattle.std.specs.Prelude.{◌≡◌, ◌∷◌, Some, [], false, replicate};
+ghost use Rattle.std.specs.Option.{option_map, option_to_list};
+ghost use Rattle.lb_types.specs.declared.limits.TheConstants.{MAX_SERVERS};
 ghost use Rattle.lb_desk_ports.specs.Calls.{Grows};
+ghost use Rattle.check_workers_round.specs.Probing.{Ends};
 
-use crate::{Probe, Probed};
-use lb_types::ServerId;
+use crate::{Probed, Probes};
+use lb_types::{MAX_SERVERS, ServerId};
 use std::alloc::Global;
 
-/// A probe for tests, which answers by a script and records what it made. It loses the record where memory for it is short.
-#[derive(Debug, Drop)]
-pub struct ScriptedProbe<'a> {
-    answers: &'a [bool],
-    made: Option<Vec<Probed>>,
+/// What a `ScriptedProbes` answers to a call that asks for a probe that has ended, while one is under way.
+#[derive(Clone, Copy, Debug, PartialEq, Eq)]
+pub enum Turn {
+    /// The probe of this server has ended so, if one is under way.
+    Ends(ServerId, bool),
+    /// None has.
+    Waits,
 }
 
-impl<'a> ScriptedProbe<'a> {
-    /// A probe that answers so, in turn. Servers after the last answer are not well.
-    pub fn new(alloc: Global, answers: &'a [bool]) -> Self
-        ensures { ⟦<ScriptedProbe<'a> as Probe>⟧.probes result ≡ Some [] }
+/// Probes for tests, which end by a script. It records what was begun and what has ended, and loses a record where memory for it is
+/// short.
+#[derive(Debug, Drop)]
+pub struct ScriptedProbes<'a> {
+    turns: &'a [Turn],
+    under_way: [bool; MAX_SERVERS],
+    begun: Option<Vec<ServerId>>,
+    ended: Option<Vec<Probed>>,
+}
+
+impl<'a> ScriptedProbes<'a> {
+    /// Probes that end so, in turn. After the last turn those that are under way end at once, as failed.
+    pub fn new(alloc: Global, turns: &'a [Turn]) -> Self
+        ensures under_way { ⟦<ScriptedProbes<'a> as Probes>⟧.under_way result ≡ replicate MAX_SERVERS false }
+        ensures begun { ⟦<ScriptedProbes<'a> as Probes>⟧.begun result ≡ Some [] }
+        ensures ended { ⟦<ScriptedProbes<'a> as Probes>⟧.ended result ≡ Some [] }
     {
-        ScriptedProbe {
-            answers,
-            made: Some(Vec::new(alloc)),
+        ScriptedProbes {
+            turns,
+            under_way: [false; MAX_SERVERS],
+            begun: Some(Vec::new(alloc)),
+            ended: Some(Vec::new(alloc)),
         }
     }
 
-    /// The probes that were made, if none was forgotten.
-    pub fn probes(&self) -> Option<&[Probed]>
-        ensures { option_map (λ made. made.now) result ≡ ⟦<ScriptedProbe<'a> as Probe>⟧.probes self.now }
+    /// The servers whose probes were begun, if none was forgotten.
+    pub fn begun(&self) -> Option<&[ServerId]>
+        ensures { option_map (λ begun. begun.now) result ≡ ⟦<ScriptedProbes<'a> as Probes>⟧.begun self.now }
     {
-        match &self.made {
-            Some(made) => Some(made.as_slice()),
+        match &self.begun {
+            Some(begun) => Some(begun.as_slice()),
             None => None,
         }
     }
 
-    // The answer to the next probe.
-    fn next_answer(&mut self) -> bool
-        ensures { self.new.made ≡ self.old.made }
+    /// The probes that have ended, if none was forgotten.
+    pub fn ended(&self) -> Option<&[Probed]>
+        ensures { option_map (λ ended. ended.now) result ≡ ⟦<ScriptedProbes<'a> as Probes>⟧.ended self.now }
     {
-        match self.answers.split_first() {
-            Some((first, rest)) => {
-                self.answers = rest;
-                *first
-            }
-            None => false,
+        match &self.ended {
+            Some(ended) => Some(ended.as_slice()),
+            None => None,
         }
+    }
+
+    /// What the next call is answered.
+    fn next_turn(&mut self) -> Turn
+        ensures { self.new ≡ record self.old { turns = self.new.turns } }
+    {
+        if let Some((turn, rest)) = self.turns.split_first() {
+            self.turns = rest;
+            return *turn;
+        }
+        for place in 0..MAX_SERVERS {
+            if self.under_way[place] {
+                return Turn::Ends(ServerId::new(place as u8), false);
+            }
+        }
+        Turn::Waits
     }
 }
 
-impl<'a> Probe for ScriptedProbe<'a> {
-    ghost probes = { λ probe. option_map (λ made. made.items) probe.made };
+impl<'a> Probes for ScriptedProbes<'a> {
+    ghost under_way = { λ probes. probes.under_way };
 
-    fn probe(&mut self, server: ServerId) -> bool {
-        let ok = self.next_answer();
-        record(&mut self.made, Probed { server, ok });
-        ok
+    ghost begun = { λ probes. option_map (λ begun. begun.items) probes.begun };
+
+    ghost ended = { λ probes. option_map (λ ended. ended.items) probes.ended };
+
+    fn is_under_way(&self, server: ServerId) -> bool {
+        self.under_way[server.index()]
+    }
+
+    fn begin(&mut self, server: ServerId) {
+        self.under_way[server.index()] = true;
+        record(&mut self.begun, server);
+    }
+
+    fn next_ended(&mut self, _millis: u64) -> Option<Probed> {
+        if !self.under_way.contains(&true) {
+            return None;
+        }
+        let Turn::Ends(server, ok) = self.next_turn() else {
+            return None;
+        };
+        if !self.under_way[server.index()] {
+            return None;
+        }
+        self.under_way[server.index()] = false;
+        record(&mut self.ended, Probed { server, ok });
+        Some(Probed { server, ok })
     }
 }
 
 // Adds to a record, or loses it.
-fn record(list: &mut Option<Vec<Probed>>, one: Probed)
+fn record<T: Drop>(list: &mut Option<Vec<T>>, one: T)
     ensures { Grows (option_map (λ l. l.items) list.old) (option_map (λ l. l.items) list.new) (one ∷ []) }
 {
     let Some(mut all) = list.take() else {

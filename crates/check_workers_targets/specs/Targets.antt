@@ -8,7 +8,7 @@ use Rattle.lb_config_values.specs.declared.timeouts.Timeouts.{Timeouts}
 use Rattle.lb_config.specs.ConfigViews.{BackendView}
 use Rattle.lb_config.specs.Limits.{probe_limit}
 use Rattle.check_workers_round.specs.declared.check.Check.{Check}
-use Rattle.check_workers_system.specs.declared.probe.ProbeTarget.{ProbeTarget}
+use Rattle.check_workers_system.specs.declared.target.ProbeTarget.{ProbeTarget}
 
 -- the check of the server at this place, if it is checked
 abbrev pub check_at : ℕ → ServerView → Option Check

@@ -5,12 +5,6 @@ use Rattle.check_workers_loop.proofs.looping.check_until_stopped.Goals as goal
 pub loop-init : goal.loop-init
 loop-init g c = record { taken = ([], refl); pauses = refl }
 
-pub returns-in-NoChecks-clause-work : goal.returns-in-NoChecks-clause-work
-returns-in-NoChecks-clause-work g c = one_more c.loop.invariant.taken c.check_once-round.result c.check_once-round.ensures.work
-
-pub returns-in-NoChecks-clause-pauses : goal.returns-in-NoChecks-clause-pauses
-returns-in-NoChecks-clause-pauses g c = c.check_once-round.ensures.pauses ∙ c.loop.invariant.pauses
-
 pub returns-then-is_stopped-clause-work : goal.returns-then-is_stopped-clause-work
 returns-then-is_stopped-clause-work g c = one_more c.loop.invariant.taken c.check_once-round.result c.check_once-round.ensures.work
 
