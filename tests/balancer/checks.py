@@ -2,8 +2,10 @@
 
 from __future__ import annotations
 
+import contextlib
 import socket
 import threading
+import time
 
 from .cases import case, expect, expect_equal, wait_until
 from .clients import get
@@ -73,6 +75,42 @@ def an_operators_drain_is_evacuated_at_once(farm: Farm) -> None:
     wait_until("all pins are at b", lambda: servers_of(balancer) == ["b"] * 4)
     expect_equal("an old key", get(port, "x-id: k0"), B)
     ends_well(balancer)
+
+
+def dark_server(stack: contextlib.ExitStack) -> int:
+    """A server that no connection to it is taken by, and none is refused."""
+    silent = stack.enter_context(socket.socket())
+    silent.bind((HOST, 0))
+    silent.listen(0)
+    # The system keeps one connection or two for who doesn't accept, and lets others wait.
+    for _ in range(4):
+        waiting = stack.enter_context(socket.socket())
+        waiting.setblocking(False)
+        with contextlib.suppress(BlockingIOError):
+            waiting.connect(silent.getsockname())
+    return int(silent.getsockname()[1])
+
+
+@case
+def servers_that_take_no_connection_delay_no_other_servers_checks(farm: Farm) -> None:
+    every = "check inter 300ms fall 2 rise 2"
+    with contextlib.ExitStack() as stack:
+        dark = [server(f"d{number}", dark_server(stack), every) for number in range(8)]
+        origins = [farm.origin() for _ in range(8)]
+        well = [server(f"w{number}", origin, every) for number, origin in enumerate(origins)]
+        begun = time.monotonic()
+        balancer = farm.start(listen(farm.port(), *LIMITS, "timeout check 2s", *dark, *well))
+        for number in range(8):
+            wait_told(balancer, f"Server web/d{number} is DOWN")
+        taken = time.monotonic() - begun
+        expect(f"each is found down by its first check, after {taken} s", taken < 2 + 1)
+        begun = time.monotonic()
+        origins[3].close()
+        wait_told(balancer, "Server web/w3 is DOWN")
+        taken = time.monotonic() - begun
+        expect(f"another is found down meanwhile, after {taken} s", taken < 2 * 0.3 + 1)
+        expect_equal("no other flip", balancer.errors().count("Server web/"), 9)
+        ends_well(balancer, checked=True)
 
 
 class Checked:

@@ -1,14 +1,18 @@
 ghost use Rattle.std.specs.Prelude.{◌<◌};
 
 use check_workers_loop::{Flipped, Flips, check_until_stopped, flip_line};
-use check_workers_round::{Check, ScriptedProbe};
+use check_workers_round::{Check, ScriptedProbes, Turn};
+use check_workers_rule::{CheckRule, RequestLine};
+use check_workers_system::{ProbeTarget, SocketProbes};
 use crossbeam_channel::{Sender, bounded};
 use http_relay_system::SystemClock;
+use lb_acl::Version;
 use lb_desk_model::Event;
 use lb_desk_ports::{Asked, Filed, PortScript, Refused, ScriptedPort, Shut};
 use lb_types::{Moment, ServerId};
 use rise_fall::Flip;
 use server_state::Checked;
+use std::net::{Ipv4Addr, TcpListener};
 use std::test::Fail;
 use std::thread;
 use std::thread::join;
@@ -79,7 +83,11 @@ fn flips_are_told_until_a_stop(rt: HostRuntime) -> Result<(), Fail> {
         let script = script(*filed, *refusing);
         let mut port = ScriptedPort::new(rt.alloc(), &script);
         let mut clock = SystemClock::new(Instant::now(&rt)?);
-        let mut probe = ScriptedProbe::new(rt.alloc(), &[true, false]);
+        let turns = [
+            Turn::Ends(ServerId::new(5), true),
+            Turn::Ends(ServerId::new(3), false),
+        ];
+        let mut probes = ScriptedProbes::new(rt.alloc(), &turns);
         let (to, stop) = bounded(rt.alloc(), 1)?;
         let mut stopper = Stopper {
             to: Some(to),
@@ -90,7 +98,7 @@ fn flips_are_told_until_a_stop(rt: HostRuntime) -> Result<(), Fail> {
         let mut checks = [check(5, 10), check(3, 0)];
         check_until_stopped(
             &rt,
-            &mut probe,
+            &mut probes,
             &mut clock,
             &mut port,
             &mut stopper,
@@ -116,7 +124,7 @@ fn a_stop_is_seen_while_nothing_is_due(rt: HostRuntime) -> Result<(), Fail> {
         let script = script(Filed::NotChecked, None);
         let mut port = ScriptedPort::new(rt.alloc(), &script);
         let mut clock = SystemClock::new(Instant::now(&rt)?);
-        let mut probe = ScriptedProbe::new(rt.alloc(), &[]);
+        let mut probes = ScriptedProbes::new(rt.alloc(), &[]);
         let (to, stop) = bounded(rt.alloc(), 1)?;
         let mut stopper = Stopper {
             to: None,
@@ -136,7 +144,7 @@ fn a_stop_is_seen_while_nothing_is_due(rt: HostRuntime) -> Result<(), Fail> {
         join(&rt, stops, || {
             check_until_stopped(
                 &rt,
-                &mut probe,
+                &mut probes,
                 &mut clock,
                 &mut port,
                 &mut stopper,
@@ -154,13 +162,62 @@ fn a_stop_is_seen_while_nothing_is_due(rt: HostRuntime) -> Result<(), Fail> {
     Ok(())
 }
 
+// A stop ends the loop while a probe is under way that never ends, and that files nothing.
+#[test]
+fn a_stop_drops_a_probe_that_is_under_way(rt: HostRuntime) -> Result<(), Fail> {
+    let listener = TcpListener::bind(&rt, "127.0.0.1:0")?;
+    let port = listener.local_addr()?.port();
+    let line = RequestLine::new(rt.alloc(), b"GET", b"/", Version::Http10)?;
+    let rule = CheckRule::http(rt.alloc(), &line, Ipv4Addr::LOCALHOST, port)?;
+    let targets = [Some(ProbeTarget {
+        address: Ipv4Addr::LOCALHOST,
+        port,
+        rule: &rule,
+        limit: 60_000,
+    })];
+    let mut probes = SocketProbes::new(&rt, rt.alloc(), &targets)?;
+    let script = script(WENT_DOWN, None);
+    let mut backend = ScriptedPort::new(rt.alloc(), &script);
+    let mut clock = SystemClock::new(Instant::now(&rt)?);
+    let (to, stop) = bounded(rt.alloc(), 1)?;
+    let mut stopper = Stopper {
+        to: None,
+        wanted: 1,
+        ups: 0,
+        downs: 0,
+    };
+    let begun = Instant::now(&rt)?;
+    let stops = || {
+        thread::sleep(&rt, Duration::from_millis(30));
+        drop(to);
+        true
+    };
+    join(&rt, stops, || {
+        check_until_stopped(
+            &rt,
+            &mut probes,
+            &mut clock,
+            &mut backend,
+            &mut stopper,
+            &mut [check(0, 1000)],
+            &stop,
+        )
+    });
+    let taken = begun.elapsed(&rt)?;
+    assert!(rt;
+        backend.entries().is_empty() && taken < Duration::from_millis(5000),
+        "{taken:?}"
+    );
+    Ok(())
+}
+
 // Without a check the loop is over at once, though nothing stops it.
 #[test]
 fn without_checks_it_is_over(rt: HostRuntime) -> Result<(), Fail> {
     let script = script(WENT_UP, None);
     let mut port = ScriptedPort::new(rt.alloc(), &script);
     let mut clock = SystemClock::new(Instant::now(&rt)?);
-    let mut probe = ScriptedProbe::new(rt.alloc(), &[]);
+    let mut probes = ScriptedProbes::new(rt.alloc(), &[]);
     let (to, stop) = bounded(rt.alloc(), 1)?;
     let mut stopper = Stopper {
         to: Some(to),
@@ -170,7 +227,7 @@ fn without_checks_it_is_over(rt: HostRuntime) -> Result<(), Fail> {
     };
     check_until_stopped(
         &rt,
-        &mut probe,
+        &mut probes,
         &mut clock,
         &mut port,
         &mut stopper,

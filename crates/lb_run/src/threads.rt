@@ -5,7 +5,7 @@ use crate::announcer::Announcer;
 use crate::floor::Floor;
 use crate::{Host, SharedGate};
 use check_workers_loop::check_until_stopped;
-use check_workers_system::SocketProbe;
+use check_workers_system::SocketProbes;
 use check_workers_targets::{checks_of, targets_of};
 use crossbeam_channel::{Receiver, Sender};
 use http_relay_lobby::{Arrival, MOST_GUESTS, Rules, gather_until_stopped};
@@ -119,7 +119,7 @@ fn check_backend<R: Host, B: Naming, G: Drop>(
     let (mut seat, backend) = floor.seat_at(rt, place)?;
     let targets = targets_of(floor.alloc, backend)?;
     let mut checks = checks_of(floor.alloc, backend)?;
-    let mut probe = SocketProbe::new(rt, &targets);
+    let mut probes = SocketProbes::new(rt, floor.alloc, &targets).map_err(|_| Refused::Memory)?;
     let mut clock = SystemClock::new(floor.start);
     let mut flips = Announcer {
         alloc: floor.alloc,
@@ -128,7 +128,7 @@ fn check_backend<R: Host, B: Naming, G: Drop>(
     };
     check_until_stopped(
         rt,
-        &mut probe,
+        &mut probes,
         &mut clock,
         &mut seat,
         &mut flips,

@@ -1,4 +1,4 @@
-use check_workers_probe::probe;
+use check_workers_probe::Probing;
 use check_workers_rule::{CheckRequest, CheckRule, RequestLine};
 use http_relay_wire::{Script, ScriptedWire, WireFault};
 use lb_acl::Version;
@@ -47,7 +47,8 @@ fn each_server_is_sent_its_own_request(rt: HostRuntime) {
 fn a_bare_connect_sends_and_reads_nothing(rt: HostRuntime) {
     let rule = CheckRule::connect();
     let mut wire = ScriptedWire::new(rt.alloc(), b"HTTP/1.0 500 No\r\n\r\n", Script::SMOOTH);
-    assert!(rt; rule.request().is_none() && probe(&rule, &mut wire));
+    let mut probing = Probing::new(rt.alloc(), &rule).expect(&rt, "memory");
+    assert!(rt; rule.request().is_none() && probing.go_on(&mut wire) == Some(true));
     assert_eq!(rt; (wire.written(), wire.unread().len()), (b"".as_slice(), 19));
 }
 
@@ -93,16 +94,19 @@ fn responses_and_their_verdicts(rt: HostRuntime) {
                 ..Script::SMOOTH
             };
             let mut wire = ScriptedWire::new(rt.alloc(), *response, script);
-            let told = probe(&rule, &mut wire);
-            assert_eq!(rt; (told, wire.written()), (*verdict, REQUEST), "{response:?}");
+            let mut probing = Probing::new(rt.alloc(), &rule).expect(&rt, "memory");
+            let told = probing.go_on(&mut wire);
+            assert_eq!(rt; (told, wire.written()), (Some(*verdict), REQUEST), "{response:?}");
         }
     }
 }
 
-// The response comes in three reads, the request goes out in two writes, one of its line and one of its fields.
+// The response comes in three reads, the request goes out in two writes, one of its line and one of its fields. Where a call has to
+// wait there is no answer yet; the probe then goes on where it was, and can be made again.
 #[test]
-fn a_fault_anywhere_before_the_answer_is_a_no(rt: HostRuntime) {
+fn a_fault_before_the_answer_is_a_no_or_not_yet(rt: HostRuntime) {
     let rule = rule(rt.alloc()).expect(&rt, "memory");
+    let mut probing = Probing::new(rt.alloc(), &rule).expect(&rt, "memory");
     for fault in [WireFault::Timeout, WireFault::Broken] {
         for at in 0..4 {
             let of_reads = Script {
@@ -115,13 +119,24 @@ fn a_fault_anywhere_before_the_answer_is_a_no(rt: HostRuntime) {
                 failing_write: Some((at, fault)),
                 ..Script::SMOOTH
             };
-            for (script, verdict) in [(of_reads, at == 3), (of_writes, at >= 2)] {
+            for (script, is_before) in [(of_reads, at == 3), (of_writes, at >= 2)] {
                 let mut wire = ScriptedWire::new(
                     rt.alloc(),
                     b"HTTP/1.0 204 No Content\r\n\r\n",
                     script,
                 );
-                assert_eq!(rt; probe(&rule, &mut wire), verdict, "{script:?}");
+                probing.restart();
+                let told = probing.go_on(&mut wire);
+                let expected = match fault {
+                    _ if is_before => Some(true),
+                    WireFault::Timeout => None,
+                    WireFault::Broken => Some(false),
+                };
+                assert_eq!(rt; told, expected, "{script:?}");
+                if told.is_none() {
+                    let told = (probing.go_on(&mut wire), wire.written());
+                    assert_eq!(rt; told, (Some(true), REQUEST), "{script:?}");
+                }
             }
         }
     }
@@ -156,7 +171,8 @@ fn heads_at_the_limits(rt: HostRuntime) {
     for (count, length, size, verdict) in HEADS {
         let response = response_of(rt.alloc(), *count, *length).expect(&rt, "memory");
         let mut wire = ScriptedWire::new(rt.alloc(), &response, Script::SMOOTH);
-        let told = (response.len(), probe(&rule, &mut wire));
-        assert_eq!(rt; told, (*size, *verdict), "{count} fields, {length} bytes");
+        let mut probing = Probing::new(rt.alloc(), &rule).expect(&rt, "memory");
+        let told = (response.len(), probing.go_on(&mut wire));
+        assert_eq!(rt; told, (*size, Some(*verdict)), "{count} fields, {length} bytes");
     }
 }
