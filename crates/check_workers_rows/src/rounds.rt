@@ -62,12 +62,16 @@ fn comes_next(
     expected: &Made,
 ) -> bool {
     for _ in 0..2 {
-        let round = make_round(rt, probes, clock, port, checks);
-        if let Some(made) = round.made {
-            let made = (round.begun.as_millis(), made.server.index() as u8, made.ok);
+        let Round {
+            begun,
+            beginning,
+            made,
+        } = make_round(rt, probes, clock, port, checks);
+        if let Some(made) = made {
+            let made = (begun.as_millis(), made.server.index() as u8, made.ok);
             return made == *expected;
         }
-        if let Beginning::NotDue(wait) = round.beginning {
+        if let Beginning::NotDue(wait) = beginning {
             clock.pause(rt, wait);
         }
     }
