@@ -65,7 +65,13 @@ fn who_listens_is_well(rt: HostRuntime) -> Result<(), Fail> {
                 }
             }
         }
-        let expected = [Some(true), Some(false), Some(false), Some(false), Some(false)];
+        let expected = [
+            Some(true),
+            Some(false),
+            Some(false),
+            Some(false),
+            Some(false),
+        ];
         assert!(rt; answers == expected, "{answers:?}");
         assert!(rt; probes.next_ended(0).is_none());
     }
@@ -89,7 +95,10 @@ fn who_says_nothing_fails_at_the_limit_and_delays_nobody(rt: HostRuntime) -> Res
     begin_all(&mut probes, 4);
     let first = next_of(&mut probes);
     let soon = begun.elapsed(&rt)?;
-    assert!(rt; first == Some((3, true)) && soon < Duration::from_millis(250), "{first:?}, {soon:?}");
+    assert!(rt;
+        first == Some((3, true)) && soon < Duration::from_millis(250),
+        "{first:?}, {soon:?}"
+    );
     for _ in 0..3 {
         let next = next_of(&mut probes);
         assert!(rt; next.map(|next| next.1) == Some(false), "{next:?}");

@@ -96,7 +96,11 @@ fn responses_and_their_verdicts(rt: HostRuntime) {
             let mut wire = ScriptedWire::new(rt.alloc(), *response, script);
             let mut probing = Probing::new(rt.alloc(), &rule).expect(&rt, "memory");
             let told = probing.go_on(&mut wire);
-            assert_eq!(rt; (told, wire.written()), (Some(*verdict), REQUEST), "{response:?}");
+            assert_eq!(rt;
+                (told, wire.written()),
+                (Some(*verdict), REQUEST),
+                "{response:?}"
+            );
         }
     }
 }
@@ -173,6 +177,10 @@ fn heads_at_the_limits(rt: HostRuntime) {
         let mut wire = ScriptedWire::new(rt.alloc(), &response, Script::SMOOTH);
         let mut probing = Probing::new(rt.alloc(), &rule).expect(&rt, "memory");
         let told = (response.len(), probing.go_on(&mut wire));
-        assert_eq!(rt; told, (*size, Some(*verdict)), "{count} fields, {length} bytes");
+        assert_eq!(rt;
+            told,
+            (*size, Some(*verdict)),
+            "{count} fields, {length} bytes"
+        );
     }
 }
