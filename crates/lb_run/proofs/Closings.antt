@@ -1,5 +1,6 @@
 -- Desks that are numbered by their places, and the lines of those that were closed.
-use Rattle.std.proofs.Common.{◌≡◌, ◌<◌, ◌∙◌, ℕ, zero, suc, ◌+◌, List, [], ◌∷◌, ◌++◌, length, take, get_or, Some, slice_get, refl, sym, ap, subst, append_assoc, append-nil, arith}
+use Rattle.std.proofs.Common.{◌≡◌, ◌<◌, ◌∙◌, ℕ, zero, suc, ◌+◌, List, [], ◌∷◌, ◌++◌, length, take, get_or, Option, Some, None, slice_get, refl, sym, ap, subst, append_assoc, append-nil, arith}
+use Rattle.std.specs.Io.KnownBytes.{Appends}
 use Rattle.lb_config.specs.ConfigViews.{BackendView}
 use Rattle.lb_desk_backend.specs.Configured.{IsBackendOf}
 use Rattle.lb_desk_model.specs.Backends.{BackendParts}
@@ -72,3 +73,46 @@ pub closed_more : (i : ℕ) (configs : List BackendView) (config : BackendView) 
 closed_more i configs config text line within here closed is =
     let same : suc i ≡ i + 1 = omega arith in
     subst (λ (n : ℕ). AllClosed (take n configs) (text ++ line)) same (closed_next i configs config text line within here closed is)
+
+longer : (done later : List ℕ) (desk : ℕ) → length done < length (done ++ desk ∷ later)
+longer [] later desk = omega arith
+longer (d ∷ ds) later desk = let more = longer ds later desk in omega (arith, more)
+
+-- all desks: those that are closed, the next one, and the others
+whole : (done rest all later : List ℕ) (desk : ℕ) → done ++ rest ≡ all → rest ≡ desk ∷ later → done ++ desk ∷ later ≡ all
+whole done rest all later desk is next = ap (λ (l : List ℕ). done ++ l) (sym next) ∙ is
+
+-- the next desk has a place among all
+pub within_all : (done rest all later : List ℕ) (desk place : ℕ) → done ++ rest ≡ all → rest ≡ desk ∷ later → place ≡ length done → place < length all
+within_all done rest all later desk place is next here =
+    let there : length done < length all =
+    subst (λ (l : List ℕ). length done < length l) (whole done rest all later desk is next) (longer done later desk) in
+    omega (arith, there, here)
+
+-- it opened as what is configured there
+pub next_configured : (opening : ℕ → BackendParts) (configs backends : List BackendView) (done rest all later : List ℕ) (desk place : ℕ)
+    (config : BackendView) → AreOpened opening configs all → done ++ rest ≡ all → rest ≡ desk ∷ later → place ≡ length done
+    → backends ≡ configs → config ≡ get_or backends place config → IsBackendOf config (opening desk)
+next_configured opening configs backends done rest all later desk place config are is next here same at =
+    let there : config ≡ get_or configs (length done) config =
+    at ∙ ap (λ (l : List BackendView). get_or l place config) same ∙ ap (λ (n : ℕ). get_or configs n config) here in
+    let opened = subst (λ (l : List ℕ). AreOpened opening configs l) (sym (whole done rest all later desk is next)) are in
+    subst (λ (b : BackendView). IsBackendOf b (opening desk)) (sym there) (next_opened opening configs done later desk config opened)
+
+take_whole : (configs : List BackendView) → take (length configs) configs ≡ configs
+take_whole [] = refl
+take_whole (c ∷ cs) = ap (λ (l : List BackendView). c ∷ l) (take_whole cs)
+
+-- with no desk left, all backends are closed
+pub closed_whole : (configs : List BackendView) (text : List ℕ) (n : ℕ) → n ≡ length configs → AllClosed (take n configs) text → AllClosed configs text
+closed_whole configs text n all closed =
+    let is : take n configs ≡ configs = ap (λ (m : ℕ). take m configs) all ∙ take_whole configs in
+    subst (λ (l : List BackendView). AllClosed l text) is closed
+
+-- what goes out in two parts
+pub appends_both : (a b c : Option (List ℕ)) (xs ys : List ℕ) → Appends a b xs → Appends b c ys → Appends a c (xs ++ ys)
+appends_both None b c xs ys first second = tt
+appends_both (Some old) None c xs ys first second = absurd first
+appends_both (Some old) (Some mid) None xs ys first second = absurd second
+appends_both (Some old) (Some mid) (Some new) xs ys first second =
+    second ∙ ap (λ (l : List ℕ). l ++ ys) first ∙ append_assoc old xs ys

@@ -1,9 +1,7 @@
 -- What a run of the balancer leaves of each backend's desk, and what it writes at its end. Our own words.
-use Rattle.std.specs.Prelude.{◌≡◌, ℕ, ⊤, Bool, true, false, List, [], ◌∷◌, ◌++◌, Option, Result, Ok, Err}
+use Rattle.std.specs.Prelude.{◌≡◌, ℕ, List, [], ◌∷◌, ◌++◌, Option}
 use Rattle.std.specs.Io.KnownBytes.{Appends}
-use Rattle.lb_cli_faults.specs.Faults.{fault_line}
-use Rattle.lb_config.specs.ConfigViews.{BackendView, ConfigView}
-use Rattle.lb_config_sections.specs.declared.cause.LocatedFault.{LocatedFault}
+use Rattle.lb_config.specs.ConfigViews.{BackendView}
 use Rattle.lb_desk_backend.specs.Configured.{IsBackendOf}
 use Rattle.lb_desk_model.specs.declared.entry.Entry.{Entry}
 use Rattle.lb_desk_model.specs.Backends.{BackendParts}
@@ -30,13 +28,6 @@ AllClosed (config ∷ configs) text = (line others : List ℕ) × ClosedAs confi
 -- all of them were closed, and these lines went out
 abbrev pub EndsClosed : List BackendView → Option (List ℕ) → Option (List ℕ) → Type 0
 EndsClosed configs old new = (text : List ℕ) × AllClosed configs text × Appends old new text
-
--- What a run for the text of a configuration writes on standard output, and whether it ended as it should: a fault is written as `check`
--- writes it. Where it didn't, as where an address can't be bound, nothing is said
-abbrev pub Runs : Result ConfigView LocatedFault → Bool → Option (List ℕ) → Option (List ℕ) → Type 0
-Runs (Err fault) is_well old new = (is_well ≡ false) × Appends old new (fault_line fault)
-Runs (Ok config) true old new = EndsClosed config.backends old new
-Runs (Ok config) false old new = ⊤
 
 -- each of these desks opened as the backend that is configured at its place
 abbrev pub AreOpened : (ℕ → BackendParts) → List BackendView → List ℕ → Type 0

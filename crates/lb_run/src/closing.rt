@@ -1,4 +1,5 @@
 ghost use Rattle.std.specs.Prelude.{IfOk, OnOk};
+ghost use Rattle.std.specs.Io.KnownBytes.{Appends};
 ghost use Rattle.lb_desk_backend.specs.Configured.{IsBackendOf};
 ghost use Rattle.lb_run.specs.Runs.{AreOpened, ClosedAs, EndsClosed};
 
@@ -27,9 +28,7 @@ pub(crate) fn close_all<B: Naming, W: Write>(
     let mut place = 0;
     for desk in desks {
         let line = close_one(alloc, &config.backends()[place], desk, &mut passes)?;
-        if out.write_all(&line).is_err() {
-            return Err(RunFault::CannotWrite);
-        }
+        write_line(out, &line)?;
         place += 1;
     }
     Ok(())
@@ -50,5 +49,14 @@ fn close_one<B: Naming>(
             Ok(closed_line(alloc, backend.name().as_bytes(), &closing)?)
         }
         ClosedDesk::Open(fault) => Err(RunFault::StillOpen(fault)),
+    }
+}
+
+fn write_line<W: Write>(out: &mut W, line: &[u8]) -> Result<(), RunFault>
+    ensures { OnOk result (Appends (W.contents out.old) (W.contents out.new) line.now) }
+{
+    match out.write_all(line) {
+        Ok(()) => Ok(()),
+        Err(_) => Err(RunFault::CannotWrite),
     }
 }

@@ -1,8 +1,3 @@
-ghost use Rattle.std.specs.Prelude.{IfOk, IsFalse, IsTrue};
-ghost use Rattle.std.specs.Io.KnownBytes.{Appends};
-ghost use Rattle.lb_config.specs.Configs.{config_in};
-ghost use Rattle.lb_run.specs.Runs.{EndsClosed, Runs};
-
 use crate::{Host, RunFault, run_config};
 use lb_cli_faults::{JobError, config_fault_line};
 use lb_config::{Config, read_config};
@@ -19,9 +14,7 @@ pub fn run_text<R: Host + Files, O: Write, E: Write>(
     text: &[u8],
     out: &mut O,
     err: &mut E,
-) -> Result<bool, JobError>
-    ensures { IfOk result (λ is_well. Runs (config_in text.now) is_well (O.contents out.old) (O.contents out.new)) }
-{
+) -> Result<bool, JobError> {
     let config = match read_config(alloc, text) {
         Ok(config) => config,
         Err(ConfigFault::Fault(fault)) => {
@@ -39,9 +32,7 @@ fn run_and_tell<R: Host + Files, O: Write, E: Write>(
     config: &Config,
     out: &mut O,
     err: &mut E,
-) -> Result<bool, JobError>
-    ensures { IfOk result (λ is_well. IsTrue is_well → EndsClosed config.now.backends (O.contents out.old) (O.contents out.new)) }
-{
+) -> Result<bool, JobError> {
     match run_config(rt, alloc, config, out) {
         Ok(()) => Ok(true),
         Err(RunFault::Bind(address)) => {
@@ -59,9 +50,7 @@ fn run_and_tell<R: Host + Files, O: Write, E: Write>(
 }
 
 /// Writes what prevented the job, which then wasn't done.
-fn write_line<W: Write>(to: &mut W, line: &[u8]) -> Result<bool, JobError>
-    ensures { IfOk result (λ is_well. IsFalse is_well × Appends (W.contents to.old) (W.contents to.new) line.now) }
-{
+fn write_line<W: Write>(to: &mut W, line: &[u8]) -> Result<bool, JobError> {
     match to.write_all(line) {
         Ok(()) => Ok(false),
         Err(_) => Err(JobError::CannotWrite),
