@@ -4,10 +4,10 @@
 //! the command socket, or a thread had not enough memory to begin. At the end all threads have handed in their passes, and each desk
 //! is closed.
 //!
-//! Promised: each thread runs the loop of the crate that promises what it does, at seats of the desks of the configuration's backends.
-//! A desk is closed only as `lb_desk_shared` promises, so that the receipts of its threads share out one history of its backend. No
-//! clause says which threads run, when they end, and what sockets do; that is tested. Start at `run_config`, and at `floor` for what
-//! the threads share.
+//! Promised: where `run_config` answers `Ok`, each backend of the configuration has had one desk, which opened as that backend. It was
+//! closed as `lb_desk_shared` promises, so that the receipts of its threads share out one history of the backend, and a line for it went
+//! out. The words are in `specs/Runs.antt`. No clause says which threads run, at which desks' seats, when they end, and what sockets do;
+//! that is tested. Start at `run_config`, and at `floor` for what the threads share.
 #![tactic(auto)]
 
 mod announcer;
