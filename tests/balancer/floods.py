@@ -16,8 +16,10 @@ from .origins import response
 
 A = response(b"a")
 GET = b"GET / HTTP/1.1\r\nHost: x\r\n\r\n"
-# `tune.relays 1`, and those that may be called.
-MOST_WORKERS = 1 + 2048
+# `tune.relays 64`, and those that may be called.
+MOST_WORKERS = 64 + 2048
+# The events of a request that waits for its server: pins expire, a server is asked for, a connection is opened.
+BEGUN = 3
 
 
 def attack(port: int, count: int, over: threading.Event) -> None:
@@ -92,9 +94,9 @@ def hold_all_workers(farm: Farm, port: int) -> list[Client]:
 @case
 def a_client_that_resets_while_it_waits_in_the_line_is_dialled_for_by_nobody(farm: Farm) -> None:
     port, late = farm.port(), late_server(farm)
-    balancer = farm.start(listen(port, *LIMITS, server("a", late.getsockname()[1])), ("tune.relays 1",))
+    balancer = farm.start(listen(port, *LIMITS, server("a", late.getsockname()[1])), ("tune.relays 64",))
     clients = hold_all_workers(farm, port)
-    wait_until("all workers have a request", lambda: len(balancer.events("web")) == 2 * MOST_WORKERS)
+    wait_until("all workers have a request", lambda: len(balancer.events("web")) == BEGUN * MOST_WORKERS)
     gone = [farm.stack.enter_context(Client(port)) for _ in range(20)]
     for client in gone:
         client.send(GET.replace(b"/ ", b"/gone "))
@@ -118,9 +120,9 @@ def a_flood_at_one_address_leaves_another_its_turn(farm: Farm) -> None:
     sections = listen(flooded, *LIMITS, server("a", late.getsockname()[1]), name="flooded") + listen(
         quiet, *LIMITS, server("b", farm.origin()), name="quiet"
     )
-    balancer = farm.start(sections, ("tune.relays 1",))
+    balancer = farm.start(sections, ("tune.relays 64",))
     clients = hold_all_workers(farm, flooded)
-    wait_until("all workers have a request", lambda: len(balancer.events("flooded")) == 2 * MOST_WORKERS)
+    wait_until("all workers have a request", lambda: len(balancer.events("flooded")) == BEGUN * MOST_WORKERS)
     clients += [farm.stack.enter_context(Client(flooded)) for _ in range(600)]
     for client in clients[MOST_WORKERS:]:
         client.send(GET)
