@@ -49,6 +49,9 @@ def processor_seconds(balancer: Balancer) -> float:
 def too_many_open_files_end_nothing_and_silent_clients_keep_nobody_out(farm: Farm) -> None:
     port = farm.port()
     balancer = farm.start(listen(port, *LIMITS, server("a", farm.origin())), ("tune.relays 4",))
+    # All threads have opened their own files by then.
+    expect_equal("the answer to a client", ask(port, GET), A)
+    threading.Event().wait(1)
     most = balancer.descriptors() + 8
     resource.prlimit(balancer.process.pid, resource.RLIMIT_NOFILE, (most, most))
     with contextlib.ExitStack() as stack:
