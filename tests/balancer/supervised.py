@@ -116,9 +116,8 @@ def a_stop_of_the_shipped_unit_finishes_the_request_in_flight(farm: Farm) -> Non
     # At a stop systemd then sends SIGTERM to the main process alone, and nothing before.
     expect_equal("how the unit is stopped", unit.get("KillMode"), ["mixed"])
     expect("there is no other command or signal", not {"ExecStop", "ExecStopPost", "ExecReload", "KillSignal", "Type"} & set(unit))
-    names = {"/usr/local/bin/stickylb-supervised": str(SCRIPT), "/usr/local/bin/stickylb": str(farm.program)}
-    names["/etc/stickylb/web.cfg"] = str(farm.folder / "web.cfg")
-    checked, started = ([names.get(word, word) for word in unit[name][0].split()] for name in ("ExecStartPre", "ExecStart"))
+    files = {"stickylb-supervised": str(SCRIPT), "stickylb": str(farm.program), "web.cfg": str(farm.folder / "web.cfg")}
+    checked, started = ([files.get(Path(word).name, word) for word in unit[name][0].split()] for name in ("ExecStartPre", "ExecStart"))
     supervised = Supervised(farm)
     expect_equal("the unit's command", started, supervised.process.args)
     done = subprocess.run(checked, capture_output=True, text=True, timeout=PATIENCE, check=False)
