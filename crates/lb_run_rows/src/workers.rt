@@ -1,5 +1,5 @@
 use crate::site::{NOWHERE, OPEN, TIMED, arrival, client, config, got, open_port};
-use http_relay_lobby::{Lane, WaitingLine, waiting_line};
+use http_relay_lobby::{Arrival, WaitingLine, waiting_line};
 use http_relay_work::{Post, Relay, Roster, work};
 use lb_desk_ports::{OpenGate, PortScript, ScriptedPort};
 use std::alloc::Global;
@@ -51,16 +51,13 @@ fn has_events(ports: Option<&[ScriptedPort<'_>]>, count: usize) -> bool {
     }
 }
 
-// Puts into the line a request whose client has reset its connection since.
-fn put_reset(rt: &HostRuntime, lane: &Lane<TcpStream>) -> Result<(), Fail> {
+// A request whose client has reset its connection since.
+fn reset_arrival(rt: &HostRuntime) -> Result<Option<Arrival<TcpStream>>, Fail> {
     let (mut stream, far) = client(rt, b"", false)?;
     // The system resets a connection that is closed before all is read.
     stream.write_all(b"unread")?;
     drop(far);
-    if let Some(arrival) = arrival(rt, stream, OPEN, REQUEST, None)? {
-        lane.try_send(rt, arrival).ok().ok_or("room in the lane")?;
-    }
-    Ok(())
+    Ok(arrival(rt, stream, OPEN, REQUEST, None)?)
 }
 
 // Two clients that have ended their direction get the server's response, and one whose frontend isn't there gets nothing. For one that
@@ -72,7 +69,9 @@ fn a_worker_serves_what_stands_in_the_line(rt: HostRuntime) -> Result<(), Fail> 
     let config = config(&rt, server.local_addr()?.port())?;
     let (mut lanes, from) = waiting_line(rt.alloc(), 1)?;
     let lane = lanes.pop().ok_or("a lane")?;
-    put_reset(&rt, &lane)?;
+    if let Some(arrival) = reset_arrival(&rt)? {
+        lane.try_send(&rt, arrival).ok().ok_or("room in the lane")?;
+    }
     let mut clients = Vec::new(rt.alloc());
     for frontend in [OPEN, NOWHERE, TIMED] {
         let (stream, far) = client(&rt, b"", true)?;
