@@ -1,10 +1,13 @@
 use http_relay_listen::OtherFiles;
-use http_relay_lobby::{Arrival, Lane, Rules, WaitingLine, waiting_line};
+use http_relay_lobby::{Arrival, Lane, Rules, WaitingLine, gather_until_stopped, waiting_line};
 use http_relay_socket::StreamLimits;
 use std::alloc::AllocError;
-use std::io::Write;
-use std::net::{Ipv4Addr, SocketAddr, SocketAddrV4, TcpStream};
+use std::io;
+use std::io::{Read, Write};
+use std::net::{Ipv4Addr, OpenListener, OpenStream, SocketAddr, SocketAddrV4, TcpStream};
+use std::os::fd::AsRawFd;
 use std::sync::Wait;
+use std::sync::atomic::AtomicBool;
 use std::test::Fail;
 use std::time::{Clock, Duration};
 
@@ -42,6 +45,22 @@ pub(crate) fn line<S: Drop>(rt: &HostRuntime) -> Result<(Lane<S>, WaitingLine<S>
     let (mut lanes, line) = waiting_line(rt.alloc(), 1)?;
     let lane = lanes.pop().ok_or(AllocError)?;
     Ok((lane, line))
+}
+
+/// Gathers clients until it is stopped. None is cut off.
+pub(crate) fn gather<L>(
+    rt: &HostRuntime,
+    listener: L,
+    rules: Rules,
+    stop: &AtomicBool,
+    to: Lane<L::Stream>,
+) -> io::Result<()>
+where
+    L: OpenListener + AsRawFd + Drop,
+    L::Stream: Read + Write + OpenStream + AsRawFd,
+{
+    let cut = AtomicBool::new(false);
+    gather_until_stopped(rt, rt.alloc(), listener, rules, stop, &cut, to)
 }
 
 /// The next connection in the line, if one comes within 5 s.

@@ -53,7 +53,7 @@ struct Watch {
 /// reads and writes that they came with.
 ///
 /// At a stop, seen within 100 ms, the listener is closed first. Guests keep their limit, and none stays for longer than one from the stop
-/// on, whatever it sends; those of a frontend without one are closed without an answer. Then the lane is let go, so that workers end
+/// on, whatever it sends; those of a frontend without one are closed without an answer. Once `cut` is set, all that are left are closed so. Then the lane is let go, so that workers end
 /// after the last connection. The error is the system's or out of memory, where gathering can't begin.
 pub fn gather_until_stopped<R, L>(
     rt: &R,
@@ -61,6 +61,7 @@ pub fn gather_until_stopped<R, L>(
     listener: L,
     rules: Rules,
     stop: &AtomicBool,
+    cut: &AtomicBool,
     to: Lane<L::Stream>,
 ) -> io::Result<()>
 where
@@ -83,7 +84,7 @@ where
     drop(listener);
     lobby.begin_end(rt, &mut room, millis(rt, watch.start));
     for _ in rt.forever() {
-        if lobby.is_empty() || lobby.line.has_ended() {
+        if lobby.is_empty() || lobby.line.has_ended() || cut.load(Ordering::SeqCst) {
             break;
         }
         watch.hear_guests(rt, false, &mut lobby, &mut room);

@@ -1,28 +1,41 @@
 ghost use Rattle.std.specs.Prelude.{None};
 
+use crate::Attended;
 use lb_desk_ports::Clock;
 use lb_types::Moment;
 use std::time::{Duration, Instant};
 use std::{thread, time};
 
 /// The system's clock, in milliseconds since a start that several clocks can share.
-#[derive(Clone, Copy, Debug)]
-pub struct SystemClock {
+#[derive(Clone, Copy)]
+pub struct SystemClock<'a> {
     start: Instant,
     last: Moment,
+    /// The client that is looked at after each pause.
+    attended: Option<&'a Attended>,
 }
 
-impl SystemClock {
+impl<'a> SystemClock<'a> {
     /// A clock that counts from this start. Moments of clocks with one start can be compared.
     pub fn new(start: Instant) -> Self {
         SystemClock {
             start,
             last: Moment::from_millis(0),
+            attended: None,
+        }
+    }
+
+    /// The same, which looks after each pause whether the client that is attended to has left.
+    pub fn beside(start: Instant, clients: Option<&'a Attended>) -> Self {
+        SystemClock {
+            start,
+            last: Moment::from_millis(0),
+            attended: clients,
         }
     }
 }
 
-impl<R: time::Clock> Clock<R> for SystemClock {
+impl<'a, R: time::Clock> Clock<R> for SystemClock<'a> {
     ghost told = { λ clock. None };
 
     ghost pauses = { λ clock. None };
@@ -37,5 +50,8 @@ impl<R: time::Clock> Clock<R> for SystemClock {
 
     fn pause(&mut self, rt: &R, millis: u64) {
         thread::sleep(rt, Duration::from_millis(millis));
+        if let Some(client) = self.attended {
+            client.look();
+        }
     }
 }

@@ -1,5 +1,6 @@
 ghost use Rattle.std.specs.Prelude.{◌≤◌, length, IfOk};
 
+use crate::attended::{has_left, watched};
 use http_relay_dial::Limits;
 use libc::net::{_SS_SIZE, POLLERR, POLLHUP, POLLIN, POLLOUT, POLLRDHUP, connect, poll};
 use libc::types::pollfd;
@@ -7,7 +8,7 @@ use mio::net as ready;
 use std::io;
 use std::io::{ErrorKind, Read, Write};
 use std::net::{Net, SocketAddr, TcpStream};
-use std::os::fd::AsRawFd;
+use std::os::fd::{AsRawFd, RawFd};
 
 /// How often a wait that a signal cut off begins again, and a call after a report that it needn't wait.
 const MOST_TRIES: u32 = 64;
@@ -34,6 +35,8 @@ enum End {
 /// answer costs one besides its reads, and the end two. Where the server's end came with its answer, `poll` reports both, and no read
 /// has to find the end.
 ///
+/// A wait also ends if the client leaves for whose request the connection is: `poll` watches both sockets. The call then fails.
+///
 /// The connection ends by a reset (RFC 9293, 3.10.5, ABORT), as HAProxy's connections to servers do. Nothing is owed to a server
 /// whose answer is there or isn't waited for, and an orderly end costs both sides more.
 #[derive(Debug)]
@@ -41,6 +44,8 @@ pub struct ServerStream {
     stream: TcpStream,
     /// For how many milliseconds each call may wait. Without a number, and at 0, there is no limit.
     limit: Option<u32>,
+    /// The descriptor of the client's connection.
+    client: RawFd,
     has_written: bool,
     sends_at_once: bool,
     /// Whether the server has to answer before there is something to read.
@@ -50,11 +55,13 @@ pub struct ServerStream {
 
 impl ServerStream {
     /// A connection to the server at this address under these limits, and how many of the first bytes it has taken. Where the server
-    /// is on this machine that is as many as a write takes. The error is the system's, or `TimedOut`.
+    /// is on this machine that is as many as a write takes. It is for the client of this descriptor, where that isn't negative. The error
+    /// is the system's, `TimedOut`, or `ConnectionAborted` where the client left.
     pub fn connect<R: Net>(
         rt: &R,
         address: SocketAddr,
         limits: Limits,
+        client: RawFd,
         first: &[u8],
     ) -> io::Result<(Self, usize)>
         ensures { IfOk result (λ connected. connected.1 ≤ length first.now) }
@@ -65,10 +72,11 @@ impl ServerStream {
         } else {
             &[]
         };
-        let taken = begin(&mut stream, limits.connect, at_once)?;
+        let taken = begin(&mut stream, limits.connect, client, at_once)?;
         let connection = ServerStream {
             stream,
             limit: limits.transfer,
+            client,
             has_written: taken > 0,
             sends_at_once: false,
             is_asked: taken > 0,
@@ -90,7 +98,7 @@ impl ServerStream {
 
     /// Waits until there is something to read, be it the end.
     fn wait_to_read(&mut self) -> io::Result<()> {
-        let reported = wait_for(&self.stream, POLLIN | POLLRDHUP, self.limit)?;
+        let reported = wait_for(&self.stream, POLLIN | POLLRDHUP, self.limit, self.client)?;
         if reported == POLLIN | POLLRDHUP {
             self.end = End::Came;
         }
@@ -114,6 +122,7 @@ impl Drop for ServerStream {
         let ServerStream {
             stream,
             limit: _,
+            client: _,
             has_written: _,
             sends_at_once: _,
             is_asked: _,
@@ -153,7 +162,7 @@ impl Write for ServerStream {
             if !had_to_wait(&answer) {
                 return answer;
             }
-            wait_for(&self.stream, POLLOUT, self.limit)?;
+            wait_for(&self.stream, POLLOUT, self.limit, self.client)?;
         }
         Err(ErrorKind::Other.into())
     }
@@ -166,7 +175,12 @@ impl Write for ServerStream {
 // Writes a beginning of these bytes to a socket that is being connected, and answers how many it took. The write assumes that the
 // dial has ended, which spares a call that waits for that. On one machine the end comes before the system reports that the dial is
 // under way. Where it hasn't come, nothing is taken, and it is waited for.
-fn begin(stream: &mut TcpStream, limit: Option<u32>, at_once: &[u8]) -> io::Result<usize>
+fn begin(
+    stream: &mut TcpStream,
+    limit: Option<u32>,
+    client: RawFd,
+    at_once: &[u8],
+) -> io::Result<usize>
     ensures { IfOk result (λ count. count ≤ length at_once.now) }
 {
     if !at_once.is_empty() {
@@ -175,7 +189,7 @@ fn begin(stream: &mut TcpStream, limit: Option<u32>, at_once: &[u8]) -> io::Resu
             return answer;
         }
     }
-    if has_failed(wait_for(stream, POLLOUT, limit)?) {
+    if has_failed(wait_for(stream, POLLOUT, limit, client)?) {
         let error = stream.take_error()?;
         return Err(error.unwrap_or(ErrorKind::NotConnected.into()));
     }
@@ -196,15 +210,19 @@ fn has_failed(reported: i16) -> bool {
 }
 
 // Waits until the system reports one of these events of the socket, or that it has failed, and gives the report. The error is
-// `TimedOut` where the limit ran out before.
-fn wait_for(stream: &TcpStream, events: i16, limit: Option<u32>) -> io::Result<i16> {
-    let mut asked = [pollfd {
+// `TimedOut` where the limit ran out before, and `ConnectionAborted` where the client left.
+fn wait_for(stream: &TcpStream, events: i16, limit: Option<u32>, client: RawFd) -> io::Result<i16> {
+    let server = pollfd {
         fd: stream.as_raw_fd(),
         events,
         revents: 0,
-    }];
+    };
+    let mut asked = [server, watched(client)];
     for _ in 0..MOST_TRIES {
         let reported = poll(&mut asked, timeout_of(limit));
+        if reported > 0 && has_left(asked[1].revents) {
+            return Err(ErrorKind::ConnectionAborted.into());
+        }
         if reported > 0 {
             return Ok(asked[0].revents);
         }

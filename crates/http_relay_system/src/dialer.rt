@@ -1,31 +1,86 @@
-ghost use Rattle.std.specs.Prelude.{◌≡◌, None};
+ghost use Rattle.std.specs.Prelude.{◌≡◌, ◌≤◌, length, IfOk, None};
 
-use crate::{ServerStream, ServerWire};
+use crate::attended::NOBODY;
+use crate::{Attended, ServerStream, ServerWire};
 use http_relay_dial::{Dialer, Endpoint, Limits};
 use http_relay_wire::WireFault;
 use std::io;
 use std::io::ErrorKind;
 use std::net::{Net, SocketAddr, SocketAddrV4};
+use std::os::fd::RawFd;
+use std::sync::Wait;
 
 /// Connects to servers by sockets. A connection sends at once what it is given, and waits as long as its limits let it. It is closed
 /// where it is given back. One whose server has ended, to which it is as good as closed, is closed at `close_last` instead, or where
 /// the next one is given back. So a caller that owes a client the end of its answer sends it before that.
-#[derive(Debug, Default, Drop)]
-pub struct SocketDialer {
+///
+/// One that attends to a client dials nobody if that had left at the last pause, and its connections end their waits if it leaves.
+#[derive(Default, Drop)]
+pub struct SocketDialer<'a> {
+    attended: Option<&'a Attended>,
     failures: u64,
     /// The connection that was given back last, where its server has ended and it isn't closed yet.
     last: Option<ServerWire>,
 }
 
-impl SocketDialer {
-    /// A dialer that hasn't failed yet.
+impl<'a> SocketDialer<'a> {
+    /// A dialer that hasn't failed yet, and attends to nobody.
     pub fn new() -> Self
         ensures { result.failures ≡ 0 }
     {
         SocketDialer {
+            attended: None,
             failures: 0,
             last: None,
         }
+    }
+
+    /// A dialer that hasn't failed yet. It attends to the clients that this is told of.
+    pub fn beside(clients: Option<&'a Attended>) -> Self
+        ensures { result.failures ≡ 0 }
+    {
+        SocketDialer {
+            attended: clients,
+            failures: 0,
+            last: None,
+        }
+    }
+
+    /// Begins the request of the client of this connection, which has to stay open until `end`.
+    pub fn begin(&self, client: RawFd) {
+        if let Some(clients) = self.attended {
+            clients.begin(client);
+        }
+    }
+
+    /// Ends the request.
+    pub fn end<W: Wait>(&self, rt: &W) {
+        if let Some(clients) = self.attended {
+            clients.end(rt);
+        }
+    }
+
+    /// The descriptor of the client. The error is that it has left.
+    fn client(&self) -> io::Result<RawFd> {
+        match self.attended {
+            Some(client) if client.has_left() => Err(ErrorKind::ConnectionAborted.into()),
+            Some(client) => Ok(client.descriptor()),
+            None => Ok(NOBODY),
+        }
+    }
+
+    /// Connects for the client.
+    fn connect<R: Net>(
+        &self,
+        rt: &R,
+        endpoint: Endpoint,
+        limits: Limits,
+        first: &[u8],
+    ) -> io::Result<(ServerStream, usize)>
+        ensures { IfOk result (λ connected. connected.1 ≤ length first.now) }
+    {
+        let address = SocketAddr::V4(SocketAddrV4::new(endpoint.address, endpoint.port));
+        ServerStream::connect(rt, address, limits, self.client()?, first)
     }
 
     /// Closes the connection that was given back last, if it isn't closed yet. That costs two system calls.
@@ -36,7 +91,7 @@ impl SocketDialer {
     }
 }
 
-impl<R: Net> Dialer<R> for SocketDialer {
+impl<'a, R: Net> Dialer<R> for SocketDialer<'a> {
     type Connection = ServerWire;
 
     ghost dials = { λ dialer. None };
@@ -52,8 +107,7 @@ impl<R: Net> Dialer<R> for SocketDialer {
         limits: Limits,
         first: &[u8],
     ) -> Result<(ServerWire, usize), WireFault> {
-        let address = SocketAddr::V4(SocketAddrV4::new(endpoint.address, endpoint.port));
-        match ServerStream::connect(rt, address, limits, first) {
+        match self.connect(rt, endpoint, limits, first) {
             Ok((stream, taken)) => Ok((ServerWire::new(stream), taken)),
             Err(error) => {
                 self.failures = self.failures.saturating_add(1);

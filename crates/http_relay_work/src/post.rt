@@ -1,5 +1,6 @@
 use crate::Roster;
 use crossbeam_channel::Receiver;
+use http_relay_system::Attended;
 
 /// The place of a worker in the roster.
 #[derive(Clone, Copy)]
@@ -41,6 +42,19 @@ impl<'a> Post<'a> {
     /// Notes that it has ended.
     pub(crate) fn end(&self) {
         self.roster.turn(self.place);
+    }
+
+    /// The client that the worker has in hand.
+    pub(crate) fn client(&self) -> Option<&'a Attended> {
+        self.roster.client(self.place)
+    }
+
+    /// Whether clients are cut off.
+    pub(crate) fn is_over(&self) -> bool {
+        match self.client() {
+            Some(client) => client.is_over(),
+            None => false,
+        }
     }
 
     /// Whether this worker has to rest.

@@ -12,4 +12,4 @@ pub struct Relay<'a> {
 }
 
 /// What a worker has for all its requests: the system's clock, its gate, and a dialer over sockets.
-pub type RelayWorker<G> = Worker<SystemClock, G, SocketDialer>;
+pub type RelayWorker<'a, G> = Worker<SystemClock<'a>, G, SocketDialer<'a>>;

@@ -1,3 +1,4 @@
+use http_relay_system::Attended;
 use std::alloc::{AllocError, Global};
 use std::sync::Wait;
 use std::sync::atomic::{AtomicBool, AtomicU64, AtomicUsize, Ordering};
@@ -14,6 +15,8 @@ pub const MOST_ON_CALL: usize = 2048;
 pub struct Roster {
     /// How often each worker has begun or ended a request, by its place. The number is odd while it has one.
     turns: Vec<AtomicU64>,
+    /// The client that each worker has in hand, by its place.
+    clients: Vec<Attended>,
     /// How many workers are at the line or have a request.
     present: AtomicUsize,
     /// How many workers on call rest.
@@ -31,11 +34,14 @@ impl Roster {
     pub fn new(alloc: Global, relays: u8) -> Result<Self, AllocError> {
         let most = usize::from(relays) + MOST_ON_CALL;
         let mut turns = Vec::with_capacity(alloc, most)?;
+        let mut clients = Vec::with_capacity(alloc, most)?;
         for _ in 0..most {
             turns.push(AtomicU64::new(0))?;
+            clients.push(Attended::new())?;
         }
         Ok(Roster {
             turns,
+            clients,
             present: AtomicUsize::new(0),
             resting: AtomicUsize::new(0),
             surplus: AtomicUsize::new(0),
@@ -59,6 +65,13 @@ impl Roster {
         self.present.load(Ordering::SeqCst) == 0 && self.resting.load(Ordering::SeqCst) == 0
     }
 
+    /// Cuts off the clients of all requests under way, and those that are still in the line.
+    pub fn cut_off<R: Wait>(&self, rt: &R) {
+        for client in &self.clients {
+            client.cut_off(rt);
+        }
+    }
+
     /// Has the workers looked at, if the thread that watches sleeps.
     pub fn ring(&self) {
         self.bell.unpark();
@@ -77,6 +90,11 @@ impl Roster {
     pub(crate) fn turns(&self, place: usize) -> Option<u64> {
         let turns = self.turns.get(place)?;
         Some(turns.load(Ordering::SeqCst))
+    }
+
+    /// The client that the worker of this place has in hand.
+    pub(crate) fn client(&self, place: usize) -> Option<&Attended> {
+        self.clients.get(place)
     }
 
     pub(crate) fn places(&self) -> usize {

@@ -15,26 +15,29 @@ use lb_routes::ConfigRoutes;
 use std::alloc::Global;
 use std::io::{Read, Write};
 use std::net::{Ipv4Addr, Net, OpenStream};
+use std::os::fd::AsRawFd;
+use std::sync::Wait;
 use std::time::Clock;
 
 /// Serves the one request of a client that came to a frontend, with one port for each backend, and ends the connection. None where
 /// the configuration has no such frontend: the connection is closed.
 ///
 /// After the dial no memory is asked for. The client's stream has the limits that it came with, and came set not to block; the bytes
-/// that were read of it come first. Where the client doesn't close by itself it is waited for among `leavers`.
+/// that were read of it come first. Where the client doesn't close by itself it is waited for among `leavers`. Where it resets its
+/// connection while a server is waited for, the wait ends.
 pub fn serve_arrival<R, S, P, G>(
     rt: &R,
     alloc: Global,
     relay: Relay<'_>,
-    worker: &mut RelayWorker<G>,
+    worker: &mut RelayWorker<'_, G>,
     arrival: Arrival<S>,
     ports: &mut [P],
     room: &mut [u8; HEAD_ROOM],
     leavers: &mut Leavers<S>,
 ) -> Option<Outcome>
 where
-    R: Net + Clock,
-    S: Read + Write + OpenStream + Drop,
+    R: Net + Clock + Wait,
+    S: Read + Write + OpenStream + AsRawFd + Drop,
     P: Port<R>,
     G: Gate<R>,
     requires { length relay.config.now.backends ≤ length ports.old }
@@ -51,11 +54,13 @@ where
         failed,
     } = arrival;
     let routes = ConfigRoutes::at(relay.config, frontend)?;
+    worker.dialer.begin(stream.as_raw_fd());
     let mut client = EagerStream::new(stream);
     let wire = SocketWire::new(&mut client);
     let outcome = serve_read(
         rt, alloc, worker, &routes, source, &head, failed, wire, ports, room,
     );
+    worker.dialer.end(rt);
     end(rt, outcome, client, leavers);
     // The client's end goes first: where the client ends before, its last packets cost more here.
     worker.dialer.close_last();
@@ -67,7 +72,7 @@ where
 fn serve_read<R, W, P, G>(
     rt: &R,
     alloc: Global,
-    worker: &mut RelayWorker<G>,
+    worker: &mut RelayWorker<'_, G>,
     routes: &ConfigRoutes<'_>,
     source: Ipv4Addr,
     head: &[u8],

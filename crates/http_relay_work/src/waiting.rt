@@ -49,7 +49,8 @@ where
         let Some((arrival, word)) = arrival_of(rt, line, word) else {
             break;
         };
-        if word == Word::CameNow || !is_reset(&arrival.stream) {
+        let is_there = word == Word::CameNow || !is_reset(&arrival.stream);
+        if is_there && !post.is_over() {
             return Some(arrival);
         }
     }

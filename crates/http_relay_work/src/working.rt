@@ -11,6 +11,7 @@ use http_relay_system::{SocketDialer, SystemClock};
 use lb_desk_ports::{Gate, Port};
 use std::alloc::Global;
 use std::net::Net;
+use std::os::fd::AsRawFd;
 use std::sync::Wait;
 use std::time::Clock;
 
@@ -20,7 +21,8 @@ use std::time::Clock;
 ///
 /// All that a worker needs for its requests is made before the first; a request allocates three times, and never after its
 /// dial. A client that doesn't close its connection at once is waited for beside the next requests. Where the line has ended the
-/// worker waits for the last of them, for a second at most. One that was reset while it was in the line is closed, and no port is used.
+/// worker waits for the last of them, for a second at most. One that was reset while it was in the line is closed, and no port is used;
+/// so is each one once clients are cut off.
 pub fn work<R, P, G>(
     rt: &R,
     alloc: Global,
@@ -32,6 +34,7 @@ pub fn work<R, P, G>(
 ) -> Vec<P>
 where
     R: Net + Clock + Wait,
+    R::Stream: AsRawFd,
     P: Port<R>,
     G: Gate<R> + Drop,
     requires { length relay.config.now.backends ≤ length ports.items }
@@ -40,9 +43,9 @@ where
         ports.items result.items services }
 {
     let mut worker = Worker {
-        clock: SystemClock::new(relay.start),
+        clock: SystemClock::beside(relay.start, post.client()),
         gate,
-        dialer: SocketDialer::new(),
+        dialer: SocketDialer::beside(post.client()),
     };
     let mut room = [0; HEAD_ROOM];
     let mut leavers = if post.is_on_call() {

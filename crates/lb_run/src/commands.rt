@@ -119,7 +119,7 @@ fn answer_at_seats<R: Host, B: Naming, G: SharedGate<R>>(
     Ok(())
 }
 
-/// Answers one operator after another until it is over. The command `stop` asks all threads to end.
+/// Answers one operator after another until it is over. The command `stop` asks all threads to end, and a second one cuts off open requests.
 fn answer_each<R: Host, B: Naming, G: SharedGate<R>>(
     rt: &R,
     floor: &Floor<'_, B, G>,
@@ -139,7 +139,7 @@ fn answer_each<R: Host, B: Naming, G: SharedGate<R>>(
         let mut line = LineStream::new(rt, is_over, stream);
         let next = serve_connection(rt, floor.alloc, console, seats, bells, &mut line);
         if next == Next::Stop {
-            floor.stop();
+            floor.stop_or_cut(rt);
         }
         end_gently(rt, line.into_stream(), &mut room);
     }

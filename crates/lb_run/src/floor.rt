@@ -31,6 +31,8 @@ pub(crate) struct Floor<'a, B: Naming, G: Drop> {
     pub(crate) listeners: &'a AtomicUsize,
     /// Is set where the balancer ends.
     pub(crate) stop: &'a AtomicBool,
+    /// Is set where open requests are cut off.
+    pub(crate) cut: &'a AtomicBool,
     /// Is set where a thread had not memory enough to begin.
     pub(crate) starved: &'a AtomicBool,
     /// The moment from which the clocks of all threads count.
@@ -44,6 +46,15 @@ impl<'a, B: Naming, G: Drop> Floor<'a, B, G> {
     /// Asks all threads to end.
     pub(crate) fn stop(&self) {
         self.stop.store(true, Ordering::SeqCst);
+        self.roster.ring();
+    }
+
+    /// Asks all threads to end. If they have been asked before, all open requests are cut off.
+    pub(crate) fn stop_or_cut<R: Wait>(&self, rt: &R) {
+        if self.stop.swap(true, Ordering::SeqCst) {
+            self.cut.store(true, Ordering::SeqCst);
+            self.roster.cut_off(rt);
+        }
         self.roster.ring();
     }
 

@@ -103,6 +103,7 @@ fn serve<R: Host + Files, B: Naming + Send + Sync, G: SharedGate<R>>(
     requires { length desks.now ≡ length config.now.backends }
 {
     let stop = AtomicBool::new(false);
+    let cut = AtomicBool::new(false);
     let starved = AtomicBool::new(false);
     let reports = Reports::new();
     let roster = Roster::new(alloc, config.relays())?;
@@ -116,6 +117,7 @@ fn serve<R: Host + Files, B: Naming + Send + Sync, G: SharedGate<R>>(
         roster: &roster,
         listeners: &listeners,
         stop: &stop,
+        cut: &cut,
         starved: &starved,
         start,
         gate,

@@ -40,7 +40,16 @@ pub(crate) fn listen<R: Host, B: Naming, G: Drop>(
         files,
     };
     floor.listeners.fetch_add(1, Ordering::SeqCst);
-    if gather_until_stopped(rt, floor.alloc, listener, rules, floor.stop, to).is_err() {
+    let gathered = gather_until_stopped(
+        rt,
+        floor.alloc,
+        listener,
+        rules,
+        floor.stop,
+        floor.cut,
+        to,
+    );
+    if gathered.is_err() {
         floor.starve();
     }
     floor.listeners.fetch_sub(1, Ordering::SeqCst);
