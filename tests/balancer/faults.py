@@ -354,3 +354,33 @@ def leave_to_go_on_is_given_once_the_server_is_dialled(farm: Farm) -> None:
     due = b"POST /e HTTP/1.1\r\nHost: x\r\nContent-Length: 2\r\nConnection: close\r\n\r\nhi"
     expect_equal("what the server got", origin.requests(1), [due])
     ends_well(balancer)
+
+
+@case
+def a_client_that_resets_while_its_server_is_waited_for_gives_its_connection_back(farm: Farm) -> None:
+    gate, port = Gate(answers(b"a")), farm.port()
+    balancer = farm.start(listen(port, *LIMITS, server("a", farm.origin(gate), "maxconn 1")))
+    client = Client(port)
+    client.send(GET)
+    gate.wait_for(1)
+    client.reset()
+    # The server hasn't answered.
+    balancer.wait_all_closed("web")
+    expect_equal("events", balancer.events("web"), VISIT)
+    gate.open()
+    expect_equal("another client's answer", ask(port, GET), A)
+    ends_well(balancer)
+
+
+@case
+def a_client_that_ends_its_direction_while_its_server_is_waited_for_is_answered(farm: Farm) -> None:
+    gate, port = Gate(answers(b"a")), farm.port()
+    balancer = farm.start(listen(port, *LIMITS, server("a", farm.origin(gate))))
+    with Client(port) as client:
+        client.send(GET)
+        client.end_sending()
+        gate.wait_for(1)
+        threading.Event().wait(0.3)
+        gate.open()
+        expect_equal("the answer", client.read_to_end(), A)
+    ends_well(balancer)

@@ -4,6 +4,7 @@ from __future__ import annotations
 
 import contextlib
 import os
+import re
 import socket
 import stat
 import threading
@@ -272,12 +273,39 @@ def operators_are_answered_while_a_stop_waits_for_requests(farm: Farm) -> None:
         wait_until("nobody else is accepted", lambda: is_refused(port))
         expect("the pin is shown", "key=k " in balancer.tell("show table web"))
         expect_equal("a change", balancer.tell("set server web/a weight 2"), "\n")
-        expect_equal("a second `stop`", balancer.tell("stop"), "\n")
         expect("it runs on", not balancer.has_ended() and at.exists())
         gate.open()
         client.read_to_end()
     expect_equal("the end", balancer.wait(), Ending(0, "closed web events 5 rising yes\n", balancer.errors()))
     expect("the socket's file is gone", not at.exists())
+
+
+@case
+def a_second_stop_cuts_off_all_open_requests(farm: Farm) -> None:
+    gate, port = Gate(answers(b"a")), farm.port()
+    limits = ("timeout client 20s", "timeout connect 20s", "timeout server 20s", "timeout queue 20s")
+    balancer = farm.start(listen(port, *limits, server("a", farm.origin(gate), "maxconn 2")))
+    held, dripping, queued, guest = (farm.stack.enter_context(Client(port)) for _ in range(4))
+    held.send(b"GET / HTTP/1.1\r\nHost: x\r\n\r\n")
+    dripping.send(b"POST / HTTP/1.1\r\nHost: x\r\nContent-Length: 9\r\n\r\nab")
+    wait_until("both have a connection", lambda: balancer.events("web").count("open a -> opened a") == 2)
+    queued.send(b"GET / HTTP/1.1\r\nHost: x\r\n\r\n")
+    wait_until("one waits for the server", lambda: "open a -> 30 Full" in balancer.events("web"))
+    guest.send(b"GET / HT")
+    expect_equal("the answer to `stop`", balancer.tell("stop"), "\n")
+    wait_until("nobody else is accepted", lambda: is_refused(port))
+    threading.Event().wait(0.5)
+    expect("it waits for them", not balancer.has_ended())
+    begun = time.monotonic()
+    expect_equal("a second `stop`", balancer.tell("stop"), "\n")
+    ended = balancer.wait()
+    took = time.monotonic() - begun
+    expect(f"it ends at once: {took:.1f} s", took < 4)
+    expect_equal("the status", ended.status, 0)
+    expect(f"the backend is closed: {ended.out!r}", re.fullmatch(r"closed web events \d+ rising yes\n", ended.out) is not None)
+    for client in (held, dripping, queued, guest):
+        expect_equal("what a client got", client.read_to_end(), b"")
+    gate.open()
 
 
 @case

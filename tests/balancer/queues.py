@@ -41,6 +41,26 @@ def one_who_waits_longer_than_the_limit_for_a_full_server_gets_503(farm: Farm) -
 
 
 @case
+def for_one_that_resets_while_it_waits_for_a_full_server_nobody_is_dialled(farm: Farm) -> None:
+    balancer, port, gate, origin = full_server(farm, "timeout queue 20s")
+    with Client(port) as first:
+        first.send(GET)
+        gate.wait_for(1)
+        gone = Client(port)
+        gone.send(GET.replace(b"/ ", b"/gone "))
+        wait_until("it waits", lambda: count(balancer, "open a -> 30 Full") > 0)
+        gone.reset()
+        # The worker looks after its next pause.
+        full = count(balancer, "open a -> 30 Full")
+        wait_until("the server is asked again", lambda: count(balancer, "open a -> 30 Full") > full + 1)
+        gate.open()
+        expect_equal("the first one's answer", first.read_to_end(), A)
+        balancer.wait_all_closed("web")
+    expect_equal("what the server got", len(origin.requests(1)), 1)
+    ends_well(balancer)
+
+
+@case
 def with_a_limit_of_0_nobody_waits_for_a_full_server(farm: Farm) -> None:
     balancer, port, gate, _ = full_server(farm, "timeout queue 0")
     with Client(port) as first:

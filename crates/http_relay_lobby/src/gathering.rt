@@ -53,8 +53,8 @@ struct Watch {
 /// reads and writes that they came with.
 ///
 /// At a stop, seen within 100 ms, the listener is closed first. Guests keep their limit, and none stays for longer than one from the stop
-/// on, whatever it sends; those of a frontend without one are closed without an answer. Once `cut` is set, all that are left are closed so. Then the lane is let go, so that workers end
-/// after the last connection. The error is the system's or out of memory, where gathering can't begin.
+/// on, whatever it sends; those of a frontend without one are closed without an answer. Once `cut` is set, all that are left are closed
+/// so. Then the lane is let go, so that workers end after the last connection. The error is the system's or out of memory, where gathering can't begin.
 pub fn gather_until_stopped<R, L>(
     rt: &R,
     alloc: Global,
