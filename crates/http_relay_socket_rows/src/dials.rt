@@ -24,7 +24,7 @@ const LIMITS: &[(Option<u32>, Option<u32>)] = &[
 // A connection that was dialled, and the server's end of it.
 fn dialled(
     rt: &HostRuntime,
-    dialer: &mut SocketDialer,
+    dialer: &mut SocketDialer<'_>,
     limits: Limits,
 ) -> Result<(ServerWire, TcpStream), Fail> {
     let listener = TcpListener::bind(rt, "127.0.0.1:0")?;

@@ -6,6 +6,7 @@ use std::alloc::Global;
 use std::io;
 use std::io::{Read, Write};
 use std::net::{Net, TcpListener, TcpStream};
+use std::os::fd::AsRawFd;
 use std::sync::Wait;
 use std::test::Fail;
 use std::thread::join;
@@ -32,7 +33,10 @@ fn work_with_one_port<'a, R: Net + Clock + Wait>(
     relay: Relay<'_>,
     from: &WaitingLine<R::Stream>,
     port: &'a PortScript<'a>,
-) -> Option<Vec<ScriptedPort<'a>>> {
+) -> Option<Vec<ScriptedPort<'a>>>
+where
+    R::Stream: AsRawFd,
+{
     let mut ports = Vec::new(alloc);
     ports.push(ScriptedPort::new(alloc, port)).ok()?;
     if ports.len() < relay.config.backends().len() {
