@@ -46,8 +46,8 @@ struct Watch {
 /// the lane is full nothing is accepted, and heads that become whole are kept.
 ///
 /// So many descriptors stay free that dials and checks always find one, as `rules.files` says. If a client's connection would take one
-/// of these, the guest silent for longest is answered as one that timed out and closed at once; a listener without a guest asks the
-/// others for one. If there is none at all, nothing more is accepted until a connection ends.
+/// of these, the listener with the most guests answers the one silent for longest as one that timed out, and closes it at once. If there
+/// is none at all, nothing more is accepted until a connection ends.
 ///
 /// The listener's connections have to be set not to block, since a read that waits would hold up all others. They keep the limits on
 /// reads and writes that they came with.

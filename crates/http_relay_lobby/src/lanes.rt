@@ -27,8 +27,44 @@ pub struct WaitingLine<S: Drop> {
 pub struct Lane<S: Drop> {
     words: Sender<()>,
     to: Sender<Arrival<S>>,
-    /// Whether a listener needs a file that a guest of another one has.
-    wants_file: Arc<AtomicBool>,
+    place: usize,
+    crowds: Arc<Crowds>,
+}
+
+/// What listeners know of one another, by their places.
+#[derive(Drop)]
+struct Crowds {
+    /// How many guests each one has.
+    guests: Vec<AtomicUsize>,
+    /// Whether another listener needs a file that a guest of this one has.
+    wanted: Vec<AtomicBool>,
+}
+
+impl Crowds {
+    /// Those of so many listeners, without a guest. The only error is out of memory.
+    fn new(alloc: Global, listeners: usize) -> Result<Self, AllocError> {
+        let mut guests = Vec::with_capacity(alloc, listeners)?;
+        let mut wanted = Vec::with_capacity(alloc, listeners)?;
+        for _ in 0..listeners {
+            guests.push(AtomicUsize::new(0))?;
+            wanted.push(AtomicBool::new(false))?;
+        }
+        Ok(Crowds { guests, wanted })
+    }
+
+    /// The place of the listener with the most guests, if it has more than so many.
+    fn most(&self, than: usize) -> Option<usize> {
+        let mut most = than;
+        let mut found = None;
+        for (place, guests) in self.guests.iter().enumerate() {
+            let count = guests.load(Ordering::SeqCst);
+            if count > most {
+                most = count;
+                found = Some(place);
+            }
+        }
+        found
+    }
 }
 
 /// The line of so many listeners: their lanes, and the end for workers. It takes all its memory here; the only error is out of memory.
@@ -41,16 +77,17 @@ pub fn waiting_line<S: Drop>(
 ) -> Result<(Vec<Lane<S>>, WaitingLine<S>), AllocError> {
     let room = room_of_a_lane(listeners);
     let (to_words, words) = bounded(alloc, room.saturating_mul(listeners.max(1)))?;
-    let wants_file = Arc::new(alloc, AtomicBool::new(false))?;
+    let crowds = Arc::new(alloc, Crowds::new(alloc, listeners)?)?;
     let mut starts = Vec::with_capacity(alloc, listeners)?;
     let mut lanes = Vec::with_capacity(alloc, listeners)?;
-    for _ in 0..listeners {
+    for place in 0..listeners {
         let (to, from) = bounded(alloc, room)?;
         lanes.push(from)?;
         starts.push(Lane {
             words: to_words.clone()?,
             to,
-            wants_file: Arc::try_clone(&wants_file)?,
+            place,
+            crowds: Arc::try_clone(&crowds)?,
         })?;
     }
     let turn = AtomicUsize::new(0);
@@ -141,13 +178,30 @@ impl<S: Drop> Lane<S> {
         self.to.len()
     }
 
-    /// Asks the other listeners to let a guest go, since this one needs a file.
-    pub(crate) fn want_file(&self) {
-        self.wants_file.store(true, Ordering::SeqCst);
+    /// Notes how many guests this listener has.
+    pub(crate) fn note_guests(&self, count: usize) {
+        if let Some(guests) = self.crowds.guests.get(self.place) {
+            guests.store(count, Ordering::SeqCst);
+        }
     }
 
-    /// Whether a listener needs a file of a guest. One that sees so lets some go.
+    /// Asks the listener with the most guests to let some go, since this one needs a file and has so many guests. Says whether there is
+    /// one with more.
+    pub(crate) fn ask_for_file(&self, own_guests: usize) -> bool {
+        let Some(place) = self.crowds.most(own_guests) else {
+            return false;
+        };
+        if let Some(wanted) = self.crowds.wanted.get(place) {
+            wanted.store(true, Ordering::SeqCst);
+        }
+        true
+    }
+
+    /// Whether another listener needs a file of a guest. One that sees so lets some go.
     pub(crate) fn is_asked_for_file(&self) -> bool {
-        self.wants_file.load(Ordering::SeqCst) && self.wants_file.swap(false, Ordering::SeqCst)
+        match self.crowds.wanted.get(self.place) {
+            Some(wanted) => wanted.load(Ordering::SeqCst) && wanted.swap(false, Ordering::SeqCst),
+            None => false,
+        }
     }
 }

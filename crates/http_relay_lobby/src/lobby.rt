@@ -166,39 +166,38 @@ impl<S: Read + Write + OpenStream + AsRawFd + Drop> Lobby<S> {
         }
     }
 
-    /// The connection under a descriptor that a client may keep. If there is none, the guest that was silent for longest leaves for it; and
-    /// where there is no guest, another listener's. If that isn't enough yet, the connection is given back as it is.
+    /// The connection under a descriptor that a client may keep. If there is none, the listener with the most guests lets the one go that
+    /// was silent for longest. If that isn't enough yet, the connection is given back as it is.
     fn let_through(&mut self, registry: &Registry, stream: S) -> Result<S, S> {
         if self.ceiling.allows(&stream) {
             return Ok(stream);
         }
         self.ceiling.measure();
-        if !self.time_out_oldest(registry) {
-            self.line.lane().want_file();
+        if !self.line.lane().ask_for_file(self.guests.len()) {
+            self.time_out_oldest(registry);
         }
         self.ceiling.lowered(stream)
     }
 
-    /// Lets some guests go if another listener has none and needs a file.
+    /// Lets some guests go if another listener, which has fewer, needs a file. The others learn how many are left.
     pub(crate) fn help_others(&mut self, registry: &Registry) {
-        if self.guests.len() == 0 || !self.line.lane().is_asked_for_file() {
-            return;
+        if self.line.lane().is_asked_for_file() {
+            for _ in 0..LET_GO {
+                self.time_out_oldest(registry);
+            }
         }
-        for _ in 0..LET_GO {
-            self.time_out_oldest(registry);
-        }
+        self.line.lane().note_guests(self.guests.len());
     }
 
-    /// Answers the guest that was silent for longest as one whose limit ran out, and closes its connection. Says whether there was one.
-    /// No worker does so, since the descriptor is needed now.
-    fn time_out_oldest(&mut self, registry: &Registry) -> bool {
+    /// Answers the guest that was silent for longest as one whose limit ran out, and closes its connection. No worker does so, since the
+    /// descriptor is needed now.
+    fn time_out_oldest(&mut self, registry: &Registry) {
         let Some(oldest) = self.guests.take_oldest() else {
-            return false;
+            return;
         };
         let stream = oldest.arrival.stream;
         let _ = registry.deregister(&mut SourceFd(&stream.as_raw_fd()));
         time_out(stream);
-        true
     }
 
     /// Begins the end, at this moment: no guest stays longer than its limit from here on. The client at the door is let in.

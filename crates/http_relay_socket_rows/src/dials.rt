@@ -26,7 +26,7 @@ fn dialled(
     rt: &HostRuntime,
     dialer: &mut SocketDialer<'_>,
     limits: Limits,
-) -> Result<(ServerWire, TcpStream), Fail> {
+) -> Result<(ServerWire<'a>, TcpStream), Fail> {
     let listener = TcpListener::bind(rt, "127.0.0.1:0")?;
     let port = listener.local_addr()?.port();
     let (near, _) = dialer.dial(rt, endpoint(port), limits, b"")?;

@@ -11,7 +11,7 @@ use std::{thread, time};
 pub struct SystemClock<'a> {
     start: Instant,
     last: Moment,
-    /// The client that is looked at after each pause.
+    /// The client for whose server is waited in a pause, and which is looked at after it.
     attended: Option<&'a Attended>,
 }
 
@@ -49,8 +49,12 @@ impl<'a, R: time::Clock> Clock<R> for SystemClock<'a> {
     }
 
     fn pause(&mut self, rt: &R, millis: u64) {
+        if let Some(client) = self.attended {
+            client.note_wait(true);
+        }
         thread::sleep(rt, Duration::from_millis(millis));
         if let Some(client) = self.attended {
+            client.note_wait(false);
             client.look();
         }
     }

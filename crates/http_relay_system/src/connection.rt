@@ -1,6 +1,7 @@
 ghost use Rattle.std.specs.Prelude.{◌≤◌, length, IfOk};
 
-use crate::attended::{has_left, watched};
+use crate::Attended;
+use crate::attended::{has_left, nobody};
 use http_relay_dial::Limits;
 use libc::net::{_SS_SIZE, POLLERR, POLLHUP, POLLIN, POLLOUT, POLLRDHUP, connect, poll};
 use libc::types::pollfd;
@@ -8,7 +9,7 @@ use mio::net as ready;
 use std::io;
 use std::io::{ErrorKind, Read, Write};
 use std::net::{Net, SocketAddr, TcpStream};
-use std::os::fd::{AsRawFd, RawFd};
+use std::os::fd::AsRawFd;
 
 /// How often a wait that a signal cut off begins again, and a call after a report that it needn't wait.
 const MOST_TRIES: u32 = 64;
@@ -39,13 +40,12 @@ enum End {
 ///
 /// The connection ends by a reset (RFC 9293, 3.10.5, ABORT), as HAProxy's connections to servers do. Nothing is owed to a server
 /// whose answer is there or isn't waited for, and an orderly end costs both sides more.
-#[derive(Debug)]
-pub struct ServerStream {
+pub struct ServerStream<'a> {
     stream: TcpStream,
     /// For how many milliseconds each call may wait. Without a number, and at 0, there is no limit.
     limit: Option<u32>,
-    /// The descriptor of the client's connection.
-    client: RawFd,
+    /// The client for whose request it is.
+    client: Option<&'a Attended>,
     has_written: bool,
     sends_at_once: bool,
     /// Whether the server has to answer before there is something to read.
@@ -53,15 +53,15 @@ pub struct ServerStream {
     end: End,
 }
 
-impl ServerStream {
+impl<'a> ServerStream<'a> {
     /// A connection to the server at this address under these limits, and how many of the first bytes it has taken. Where the server
-    /// is on this machine that is as many as a write takes. It is for the client of this descriptor, where that isn't negative. The error
-    /// is the system's, `TimedOut`, or `ConnectionAborted` where the client left.
+    /// is on this machine that is as many as a write takes. It is for this client's request. The error is the system's,
+    /// `TimedOut`, or `ConnectionAborted` where the client left.
     pub fn connect<R: Net>(
         rt: &R,
         address: SocketAddr,
         limits: Limits,
-        client: RawFd,
+        client: Option<&'a Attended>,
         first: &[u8],
     ) -> io::Result<(Self, usize)>
         ensures { IfOk result (λ connected. connected.1 ≤ length first.now) }
@@ -115,7 +115,7 @@ impl ServerStream {
     }
 }
 
-impl Drop for ServerStream {
+impl<'a> Drop for ServerStream<'a> {
     fn drop(self) {
         // To connect a socket to nowhere dissolves its connection at once. If the system won't, closing it ends it in turn.
         unsafe { connect(self.stream.as_raw_fd(), &NOWHERE, NOWHERE_LENGTH) };
@@ -132,7 +132,7 @@ impl Drop for ServerStream {
     }
 }
 
-impl Read for ServerStream {
+impl<'a> Read for ServerStream<'a> {
     fn read(&mut self, buffer: &mut [u8]) -> io::Result<usize> {
         if self.end == End::Reached {
             return Ok(0);
@@ -153,7 +153,7 @@ impl Read for ServerStream {
     }
 }
 
-impl Write for ServerStream {
+impl<'a> Write for ServerStream<'a> {
     fn write(&mut self, bytes: &[u8]) -> io::Result<usize> {
         self.send_at_once()?;
         self.is_asked = true;
@@ -178,7 +178,7 @@ impl Write for ServerStream {
 fn begin(
     stream: &mut TcpStream,
     limit: Option<u32>,
-    client: RawFd,
+    client: Option<&Attended>,
     at_once: &[u8],
 ) -> io::Result<usize>
     ensures { IfOk result (λ count. count ≤ length at_once.now) }
@@ -211,13 +211,31 @@ fn has_failed(reported: i16) -> bool {
 
 // Waits until the system reports one of these events of the socket, or that it has failed, and gives the report. The error is
 // `TimedOut` where the limit ran out before, and `ConnectionAborted` where the client left.
-fn wait_for(stream: &TcpStream, events: i16, limit: Option<u32>, client: RawFd) -> io::Result<i16> {
+fn wait_for(
+    stream: &TcpStream,
+    events: i16,
+    limit: Option<u32>,
+    client: Option<&Attended>,
+) -> io::Result<i16> {
     let server = pollfd {
         fd: stream.as_raw_fd(),
         events,
         revents: 0,
     };
-    let mut asked = [server, watched(client)];
+    match client {
+        Some(client) => {
+            client.note_wait(true);
+            let reported = first_report([server, client.watched()], limit);
+            client.note_wait(false);
+            reported
+        }
+        None => first_report([server, nobody()], limit),
+    }
+}
+
+// Waits for a report of a server's socket or of a client's.
+fn first_report(sockets: [pollfd; 2], limit: Option<u32>) -> io::Result<i16> {
+    let mut asked = sockets;
     for _ in 0..MOST_TRIES {
         let reported = poll(&mut asked, timeout_of(limit));
         if reported > 0 && has_left(asked[1].revents) {

@@ -1,6 +1,5 @@
 ghost use Rattle.std.specs.Prelude.{◌≡◌, ◌≤◌, length, IfOk, None};
 
-use crate::attended::NOBODY;
 use crate::{Attended, ServerStream, ServerWire};
 use http_relay_dial::{Dialer, Endpoint, Limits};
 use http_relay_wire::WireFault;
@@ -20,7 +19,7 @@ pub struct SocketDialer<'a> {
     attended: Option<&'a Attended>,
     failures: u64,
     /// The connection that was given back last, where its server has ended and it isn't closed yet.
-    last: Option<ServerWire>,
+    last: Option<ServerWire<'a>>,
 }
 
 impl<'a> SocketDialer<'a> {
@@ -46,10 +45,11 @@ impl<'a> SocketDialer<'a> {
         }
     }
 
-    /// Begins the request of the client of this connection, which has to stay open until `end`.
-    pub fn begin(&self, client: RawFd) {
+    /// Begins the request of the client of this connection, which has to stay open until `end`. The client may hold up the balancer's end
+    /// for so many milliseconds; without a number, and at 0, for ever.
+    pub fn begin(&self, client: RawFd, limit: Option<u32>) {
         if let Some(clients) = self.attended {
-            clients.begin(client);
+            clients.begin(client, limit);
         }
     }
 
@@ -60,27 +60,21 @@ impl<'a> SocketDialer<'a> {
         }
     }
 
-    /// The descriptor of the client. The error is that it has left.
-    fn client(&self) -> io::Result<RawFd> {
-        match self.attended {
-            Some(client) if client.has_left() => Err(ErrorKind::ConnectionAborted.into()),
-            Some(client) => Ok(client.descriptor()),
-            None => Ok(NOBODY),
-        }
-    }
-
-    /// Connects for the client.
+    /// Connects for the client. One that has left is connected to nobody.
     fn connect<R: Net>(
         &self,
         rt: &R,
         endpoint: Endpoint,
         limits: Limits,
         first: &[u8],
-    ) -> io::Result<(ServerStream, usize)>
+    ) -> io::Result<(ServerStream<'a>, usize)>
         ensures { IfOk result (λ connected. connected.1 ≤ length first.now) }
     {
+        if has_left(self.attended) {
+            return Err(ErrorKind::ConnectionAborted.into());
+        }
         let address = SocketAddr::V4(SocketAddrV4::new(endpoint.address, endpoint.port));
-        ServerStream::connect(rt, address, limits, self.client()?, first)
+        ServerStream::connect(rt, address, limits, self.attended, first)
     }
 
     /// Closes the connection that was given back last, if it isn't closed yet. That costs two system calls.
@@ -92,7 +86,7 @@ impl<'a> SocketDialer<'a> {
 }
 
 impl<'a, R: Net> Dialer<R> for SocketDialer<'a> {
-    type Connection = ServerWire;
+    type Connection = ServerWire<'a>;
 
     ghost dials = { λ dialer. None };
 
@@ -106,7 +100,7 @@ impl<'a, R: Net> Dialer<R> for SocketDialer<'a> {
         endpoint: Endpoint,
         limits: Limits,
         first: &[u8],
-    ) -> Result<(ServerWire, usize), WireFault> {
+    ) -> Result<(ServerWire<'a>, usize), WireFault> {
         match self.connect(rt, endpoint, limits, first) {
             Ok((stream, taken)) => Ok((ServerWire::new(stream), taken)),
             Err(error) => {
@@ -116,8 +110,16 @@ impl<'a, R: Net> Dialer<R> for SocketDialer<'a> {
         }
     }
 
-    fn hang_up(&mut self, _rt: &R, connection: ServerWire) {
+    fn hang_up(&mut self, _rt: &R, connection: ServerWire<'a>) {
         self.last = connection.has_ended().then_some(connection);
+    }
+}
+
+/// Whether the client had left at the last look.
+fn has_left(client: Option<&Attended>) -> bool {
+    match client {
+        Some(client) => client.has_left(),
+        None => false,
     }
 }
 

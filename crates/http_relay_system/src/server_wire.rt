@@ -5,17 +5,17 @@ use crate::ServerStream;
 use http_relay_wire::{SocketWire, Wire, WireFault};
 
 /// A wire over a connection to a server, which knows whether a read has reported that the server ended.
-#[derive(Debug, Drop)]
-pub struct ServerWire {
-    wire: SocketWire<ServerStream>,
+#[derive(Drop)]
+pub struct ServerWire<'a> {
+    wire: SocketWire<ServerStream<'a>>,
     has_ended: bool,
 }
 
-impl ServerWire {
+impl<'a> ServerWire<'a> {
     /// A wire over the connection, of which nothing was read or written yet.
-    pub(crate) fn new(stream: ServerStream) -> Self
-        ensures reading { ⟦<ServerWire as Wire>⟧.reading result ≡ record { unread = None; left = 2 ^ 62; ended = false } }
-        ensures faults { ⟦<ServerWire as Wire>⟧.faults result ≡ no_faults }
+    pub(crate) fn new(stream: ServerStream<'a>) -> Self
+        ensures reading { ⟦<ServerWire<'a> as Wire>⟧.reading result ≡ record { unread = None; left = 2 ^ 62; ended = false } }
+        ensures faults { ⟦<ServerWire<'a> as Wire>⟧.faults result ≡ no_faults }
     {
         ServerWire {
             wire: SocketWire::new(stream),
@@ -29,12 +29,12 @@ impl ServerWire {
     }
 }
 
-impl Wire for ServerWire {
-    ghost reading = { λ server. ⟦<SocketWire<ServerStream> as Wire>⟧.reading server.wire };
+impl<'a> Wire for ServerWire<'a> {
+    ghost reading = { λ server. ⟦<SocketWire<ServerStream<'a>> as Wire>⟧.reading server.wire };
 
-    ghost written = { λ server. ⟦<SocketWire<ServerStream> as Wire>⟧.written server.wire };
+    ghost written = { λ server. ⟦<SocketWire<ServerStream<'a>> as Wire>⟧.written server.wire };
 
-    ghost faults = { λ server. ⟦<SocketWire<ServerStream> as Wire>⟧.faults server.wire };
+    ghost faults = { λ server. ⟦<SocketWire<ServerStream<'a>> as Wire>⟧.faults server.wire };
 
     fn read(&mut self, buffer: &mut [u8]) -> Result<usize, WireFault> {
         let answer = self.wire.read(buffer);

@@ -54,7 +54,9 @@ where
         failed,
     } = arrival;
     let routes = ConfigRoutes::at(relay.config, frontend)?;
-    worker.dialer.begin(stream.as_raw_fd());
+    worker
+        .dialer
+        .begin(stream.as_raw_fd(), routes.client_limit());
     let mut client = EagerStream::new(stream);
     let wire = SocketWire::new(&mut client);
     let outcome = serve_read(
