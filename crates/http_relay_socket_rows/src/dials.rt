@@ -22,9 +22,9 @@ const LIMITS: &[(Option<u32>, Option<u32>)] = &[
 ];
 
 // A connection that was dialled, and the server's end of it.
-fn dialled(
+fn dialled<'a>(
     rt: &HostRuntime,
-    dialer: &mut SocketDialer<'_>,
+    dialer: &mut SocketDialer<'a>,
     limits: Limits,
 ) -> Result<(ServerWire<'a>, TcpStream), Fail> {
     let listener = TcpListener::bind(rt, "127.0.0.1:0")?;
