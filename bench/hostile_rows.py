@@ -3,6 +3,7 @@
 from __future__ import annotations
 
 import contextlib
+import math
 import multiprocessing
 import random
 import re
@@ -26,7 +27,8 @@ from balancer.origins import LINGER_NOT, Talk, answers, response
 from balancer.waits import late, threads_of
 from loading import ORIGINS, Told, load, origins, say, started, wait_for, starting_on
 
-GET = b"GET / HTTP/1.1\r\nHost: x\r\n\r\n"
+# Without the last line HAProxy would keep the connection, and a client that reads to the end would wait for that.
+GET = b"GET / HTTP/1.1\r\nHost: x\r\nConnection: close\r\n\r\n"
 WORKERS = "tune.relays 16"
 LIMITS = ("timeout client 10s", "timeout connect 3s", "timeout server 10s")
 
@@ -140,7 +142,7 @@ class Servers(threading.Thread):
 
 
 def keyed(key: str) -> bytes:
-    return f"GET / HTTP/1.1\r\nHost: x\r\nx-id: {key}\r\n\r\n".encode()
+    return f"GET / HTTP/1.1\r\nHost: x\r\nConnection: close\r\nx-id: {key}\r\n\r\n".encode()
 
 
 def pins_of(balancer: Balancer) -> dict[str, str]:
@@ -453,28 +455,27 @@ ASKERS_PACE = 0.25
 PAGE_SECONDS = 5.0
 RESETS = 4
 RESET_AFTER = 0.02
+# So many requests a second one client can reset in turn.
+MOST_RESETS = 20
 RESET_SECONDS = 25
 
 
 class Resetting(threading.Thread):
     """A client that asks for the slow page so often a second, and resets each request a moment later. It has no connection otherwise."""
 
-    def __init__(self, port: int, often: int) -> None:
+    def __init__(self, port: int, often: float) -> None:
         super().__init__(daemon=True)
         self.port, self.every = port, 1 / often
         self.over = threading.Event()
         self.sent = 0
 
     def run(self) -> None:
-        waiting: list[tuple[float, Client]] = []
         turn = time.monotonic()
-        while not self.over.wait(max(0.0, min(turn, *(at for at, _ in waiting[:1]), turn) - time.monotonic())):
-            now = time.monotonic()
-            if now >= turn:
-                waiting.append((now + RESET_AFTER, self.asked()))
-                turn += self.every
-            while waiting and waiting[0][0] <= now:
-                waiting.pop(0)[1].reset()
+        while not self.over.wait(max(0.0, turn - time.monotonic())):
+            client = self.asked()
+            self.over.wait(RESET_AFTER)
+            client.reset()
+            turn += self.every
 
     def asked(self) -> Client:
         client = Client(self.port)
@@ -501,18 +502,33 @@ def reset_sections(farm: Farm, port: int) -> tuple[str, Callable[[], int]]:
     return section("defaults", "mode http", *LIMITS) + front + backends, lambda: sum(b"/slow" in it.received for it in slow.talks)
 
 
+@contextlib.contextmanager
+def resetting(port: int, often: int) -> Iterator[list[Resetting]]:
+    """Meanwhile so many requests for the slow page are sent and reset each second."""
+    count = math.ceil(often / MOST_RESETS)
+    crowd = [Resetting(port, often / count) for _ in range(count)]
+    for one in crowd:
+        one.start()
+    try:
+        yield crowd
+    finally:
+        for one in crowd:
+            one.over.set()
+        for one in crowd:
+            one.join(10)
+
+
 def beside_resets(bench: Bench, port: int, came: Callable[[], int], threads: Callable[[], int]) -> Reset:
     seconds = bench.seconds or RESET_SECONDS
-    resetting = Resetting(port, bench.resets or RESETS)
-    resetting.start()
-    time.sleep(PAGE_SECONDS)
-    with Askers(Page(port), [GET] * ASKERS, ASKERS_PACE) as honest:
-        begin = time.monotonic()
-        time.sleep(seconds)
-        most = threads()
-    resetting.over.set()
-    resetting.join(10)
-    return Reset(span(honest.asked, begin - ASKERS_PACE / 4, begin + seconds - ASKERS_PACE / 4), resetting.sent, came(), most)
+    with resetting(port, bench.resets or RESETS) as crowd:
+        time.sleep(PAGE_SECONDS)
+        with Askers(Page(port), [GET] * ASKERS, ASKERS_PACE) as honest:
+            begin = time.monotonic()
+            # The last turn is a while before the end, so that no turn is counted by chance.
+            end = begin + seconds - ASKERS_PACE / 4
+            time.sleep(end - begin)
+            most = threads()
+    return Reset(span(honest.asked, begin, end), sum(one.sent for one in crowd), came(), most)
 
 
 def stickylb_beside_resets(bench: Bench) -> Reset:
