@@ -522,10 +522,10 @@ def beside_resets(bench: Bench, port: int, came: Callable[[], int], threads: Cal
     seconds = bench.seconds or RESET_SECONDS
     with resetting(port, bench.resets or RESETS) as crowd:
         time.sleep(PAGE_SECONDS)
+        begin = time.monotonic()
+        # Each has its last turn well before the end, so that no turn is counted by chance.
+        end = begin + seconds - ASKERS_PACE / 4
         with Askers(Page(port), [GET] * ASKERS, ASKERS_PACE) as honest:
-            begin = time.monotonic()
-            # The last turn is a while before the end, so that no turn is counted by chance.
-            end = begin + seconds - ASKERS_PACE / 4
             time.sleep(end - begin)
             most = threads()
     return Reset(span(honest.asked, begin, end), sum(one.sent for one in crowd), came(), most)
