@@ -28,11 +28,13 @@ class Asked:
 
 @dataclass(frozen=True)
 class Page:
-    """What clients ask for: at this port, with this body as the good answer, for which they wait this many seconds."""
+    """What clients ask for: at this port, with this body as the good answer, for which they wait this many seconds. A client sends its head so
+    many seconds after it has connected."""
 
     port: int
     body: bytes = b"a"
     patience: float = 10.0
+    gap: float = 0.0
 
 
 def what_of(answer: bytes, body: bytes) -> str:
@@ -45,11 +47,13 @@ def what_of(answer: bytes, body: bytes) -> str:
     return GOOD if answer.endswith(b"\r\n\r\n" + body) else "cut"
 
 
-def exchange(port: int, request: bytes, patience: float) -> bytes:
-    """All that the client of this request gets, within so many seconds as a whole."""
-    end = time.monotonic() + patience
+def exchange(page: Page, request: bytes) -> bytes:
+    """All that the client of this request gets, as long as its patience lasts."""
+    end = time.monotonic() + page.patience
     pieces = []
-    with socket.create_connection((HOST, port), patience) as stream:
+    with socket.create_connection((HOST, page.port), page.patience) as stream:
+        if page.gap:
+            time.sleep(page.gap)
         stream.sendall(request)
         while True:
             left = end - time.monotonic()
@@ -66,7 +70,7 @@ def ask(page: Page, request: bytes) -> Asked:
     """Asks once."""
     begun = time.monotonic()
     try:
-        what = what_of(exchange(page.port, request, page.patience), page.body)
+        what = what_of(exchange(page, request), page.body)
     except TimeoutError:
         what = "late"
     except ConnectionRefusedError:
