@@ -328,7 +328,7 @@ def binds(bench: Bench) -> Row:
 SLOW = 16
 CLIENTS = 64
 DRIP_SECONDS = 5
-DRIP_ROUNDS = 5
+DRIP_ROUNDS = 10
 MOST_TIMES = 2.0
 LONG = bytes(20 << 20)
 # What a reader takes each tenth of a second.
