@@ -35,7 +35,7 @@ LIMITS = ("timeout client 10s", "timeout connect 3s", "timeout server 10s")
 
 @dataclass(frozen=True)
 class Bench:
-    """What a run of the script was asked for. Numbers that aren't None make it a look."""
+    """What a run of the script was asked for. A number that isn't None makes it a look."""
 
     program: Path
     # The processors of balancers, and those of clients and servers.
@@ -47,7 +47,7 @@ class Bench:
 
     @property
     def is_look(self) -> bool:
-        return not self.seconds is self.rounds is self.resets is None
+        return any(it is not None for it in (self.seconds, self.rounds, self.resets))
 
     def start(self, farm: Farm, sections: str, most_files: int | None = None) -> Balancer:
         """Starts the balancer, on its processors."""
