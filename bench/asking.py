@@ -80,11 +80,9 @@ def ask(page: Page, request: bytes) -> Asked:
     return Asked(begun, time.monotonic() - begun, what)
 
 
-def next_turn(turn: float, every: float, now: float) -> float:
-    """The next moment of a timetable that isn't over yet."""
-    if every == 0:
-        return now
-    return turn + every * max(1, math.ceil((now - turn) / every))
+def turns_of(asked: Asked, every: float) -> int:
+    """How many turns of a timetable a request took: one, unless its answer took longer than that. That a client was late itself costs none."""
+    return max(1, math.ceil(asked.seconds / every))
 
 
 class Askers:
@@ -113,8 +111,9 @@ class Askers:
     def run(self, request: bytes, wait: float) -> None:
         turn = time.monotonic() + wait
         while not self.over.wait(max(0.0, turn - time.monotonic())):
-            self.asked.append(ask(self.page, request))
-            turn = next_turn(turn, self.every, time.monotonic())
+            asked = ask(self.page, request)
+            self.asked.append(asked)
+            turn = turn + self.every * turns_of(asked, self.every) if self.every else time.monotonic()
 
 
 @dataclass(frozen=True)

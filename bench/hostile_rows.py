@@ -409,8 +409,7 @@ class Drips:
         with contextlib.ExitStack() as stack:
             slow = Slow(stack, self.port)
             slow.start()
-            # Bodies have come to their server, and buffers between it and the readers are full.
-            wait_until("all are held", lambda: open_at(self.balancer, "slow") == 2 * SLOW)
+            # Bodies come to their server, and buffers between it and the readers fill.
             time.sleep(2)
             told = self.load()
             kept = slow.end()
@@ -451,20 +450,27 @@ def drips(bench: Bench) -> Row:
                     told, count = farm.load_beside()
                     beside.append(told)
                     kept.append(count)
-            say(f"  round {number + 1}: p99 {alone[-1].late * 1e3:.1f} ms without, {beside[-1].late * 1e3:.1f} ms with")
+            say(f"  round {number + 1}: p99 {late_of(alone[-1]) * 1e3:.1f} ms without, {late_of(beside[-1]) * 1e3:.1f} ms with")
     expect_equal("slow clients that were connected to the end, at the least", min(kept), 2 * SLOW)
     return judged_drips(alone, beside)
 
 
+def late_of(told: Told) -> float:
+    """The seconds within which 99 of 100 were answered. wrk says 0 if nobody was."""
+    return told.late if told.answered else math.inf
+
+
 def judged_drips(alone: list[Told], beside: list[Told]) -> Row:
-    times = statistics.median(one.late / other.late for one, other in zip(beside, alone))
-    late_of, pace_of = ([statistics.median(getattr(it, name) for it in one) for one in (beside, alone)] for name in ("late", "pace"))
+    pairs = [(late_of(one), late_of(other)) for one, other in zip(beside, alone)]
+    times = statistics.median(one / other for one, other in pairs)
+    lates = [statistics.median(it) * 1e3 for it in zip(*pairs)]
+    paces = [statistics.median(it.pace for it in one) for one in (beside, alone)]
     failed = sum(it.failed for it in (*alone, *beside))
     seen = (
-        f"p99 {late_of[0] * 1e3:.1f} ms, without {late_of[1] * 1e3:.1f} ms, {times:.2f} times in the median pair; {pace_of[0]:.0f} requests a second,"
-        f" without {pace_of[1]:.0f}; {failed} failed"
+        f"p99 {lates[0]:.1f} ms, without {lates[1]:.1f} ms, {times:.2f} times in the median pair; {paces[0]:.0f} requests a second,"
+        f" without {paces[1]:.0f}; {failed} failed"
     )
-    return Row(f"{MOST_TIMES:.0f} times", seen, times <= MOST_TIMES and not failed)
+    return Row(f"{MOST_TIMES:.0f} times", seen, times <= MOST_TIMES and not failed and paces[0] >= paces[1] / MOST_TIMES)
 
 
 # --- resets --------------------------------------------------------------------------------------------------------------------------
