@@ -11,7 +11,7 @@ import socket
 import subprocess
 import sys
 import time
-from collections.abc import Sequence
+from collections.abc import Iterator, Sequence
 from dataclasses import dataclass
 from pathlib import Path
 
@@ -82,6 +82,17 @@ def started(words: list[str], cores: str) -> subprocess.Popen[bytes]:
     """Starts a program on these processors, in the session of this script: Linux shares a processor out between sessions, so with sessions of
     their own clients and servers would get other shares of theirs."""
     return subprocess.Popen(["taskset", "-c", cores, *words], stdin=subprocess.DEVNULL, stdout=subprocess.DEVNULL)
+
+
+@contextlib.contextmanager
+def starting_on(cores: str) -> Iterator[None]:
+    """What this thread starts meanwhile has these processors."""
+    before = os.sched_getaffinity(0)
+    os.sched_setaffinity(0, {int(it) for it in cores.split(",")})
+    try:
+        yield
+    finally:
+        os.sched_setaffinity(0, before)
 
 
 def wait_for(port: int) -> None:

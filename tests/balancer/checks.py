@@ -10,6 +10,7 @@ import time
 from .cases import case, expect, expect_equal, wait_until
 from .clients import get
 from .farms import HOST, LIMITS, Balancer, Farm, ends_well, listen, server
+from .hostile import dark_server
 from .origins import response
 from .pins import shown_keys
 
@@ -75,20 +76,6 @@ def an_operators_drain_is_evacuated_at_once(farm: Farm) -> None:
     wait_until("all pins are at b", lambda: servers_of(balancer) == ["b"] * 4)
     expect_equal("an old key", get(port, "x-id: k0"), B)
     ends_well(balancer)
-
-
-def dark_server(stack: contextlib.ExitStack) -> int:
-    """A server that no connection to it is taken by, and none is refused."""
-    silent = stack.enter_context(socket.socket())
-    silent.bind((HOST, 0))
-    silent.listen(0)
-    # The system keeps one connection or two for who doesn't accept, and lets others wait.
-    for _ in range(4):
-        waiting = stack.enter_context(socket.socket())
-        waiting.setblocking(False)
-        with contextlib.suppress(BlockingIOError):
-            waiting.connect(silent.getsockname())
-    return int(silent.getsockname()[1])
 
 
 @case

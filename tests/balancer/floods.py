@@ -2,8 +2,6 @@
 
 from __future__ import annotations
 
-import contextlib
-import selectors
 import socket
 import threading
 import time
@@ -12,6 +10,7 @@ from .answers import own
 from .cases import PATIENCE, case, expect, expect_equal, wait_until
 from .clients import Client, ask, at_once, is_refused
 from .farms import HOST, LIMITS, Farm, ends_well, listen, server
+from .hostile import attack, dripping
 from .origins import response
 
 A = response(b"a")
@@ -20,26 +19,6 @@ GET = b"GET / HTTP/1.1\r\nHost: x\r\n\r\n"
 MOST_WORKERS = 64 + 2048
 # The events of a request that waits for its server: pins expire, a server is asked for, a connection is opened.
 BEGUN = 3
-
-
-def attack(port: int, count: int, over: threading.Event) -> None:
-    """Keeps so many idle connections, and opens each anew as soon as it is let go."""
-    with selectors.DefaultSelector() as waiting, contextlib.ExitStack() as stack:
-
-        def open_one() -> None:
-            stream = stack.enter_context(socket.socket())
-            stream.setblocking(False)
-            with contextlib.suppress(BlockingIOError):
-                stream.connect((HOST, port))
-            waiting.register(stream, selectors.EVENT_READ)
-
-        for _ in range(count):
-            open_one()
-        while not over.is_set():
-            for key, _ in waiting.select(0.1):
-                waiting.unregister(key.fileobj)
-                key.fileobj.close()  # type: ignore[union-attr]
-                open_one()
 
 
 @case
@@ -141,25 +120,16 @@ def a_flood_at_one_address_leaves_another_its_turn(farm: Farm) -> None:
 
 @case
 def a_stop_waits_for_a_client_that_drips_no_longer_than_its_limit(farm: Farm) -> None:
-    port, over = farm.port(), threading.Event()
+    port = farm.port()
     balancer = farm.start(listen(port, "timeout client 2s", server("a", farm.origin())))
-
-    def drip(client: Client) -> None:
-        with contextlib.suppress(OSError):
-            while not over.wait(0.3):
-                client.send(b"x")
-
     with Client(port) as client:
         client.send(b"GET /")
-        dripping = threading.Thread(target=drip, args=(client,), daemon=True)
-        dripping.start()
-        threading.Event().wait(3)
-        expect("it may drip for longer than its limit", not balancer.has_ended() and not is_refused(port))
-        expect_equal("the answer to `stop`", balancer.tell("stop"), "\n")
-        begin = time.monotonic()
-        ended = balancer.wait()
-        took = time.monotonic() - begin
-        over.set()
-        dripping.join(PATIENCE)
+        with dripping(client, 0.3):
+            threading.Event().wait(3)
+            expect("it may drip for longer than its limit", not balancer.has_ended() and not is_refused(port))
+            expect_equal("the answer to `stop`", balancer.tell("stop"), "\n")
+            begin = time.monotonic()
+            ended = balancer.wait()
+            took = time.monotonic() - begin
     expect(f"it ends after the limit: {took:.1f} s", took <= 6)
     expect_equal("the end", (ended.status, ended.out), (0, "closed web events 0 rising yes\n"))

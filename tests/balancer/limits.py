@@ -15,6 +15,7 @@ from .answers import own
 from .cases import PATIENCE, case, expect, expect_equal, wait_until
 from .clients import Client, ask, ask_operator, at_once, get, is_refused, operator_stream
 from .farms import HOST, LIMITS, TABLE, Balancer, Ending, Farm, ends_well, listen, server
+from .hostile import dark_server
 from .origins import Gate, answers, response
 from .replaying import replies_differ
 
@@ -112,18 +113,10 @@ def sixty_four_backends_run_side_by_side(farm: Farm) -> None:
 @case
 def a_dial_that_takes_too_long_is_503(farm: Farm) -> None:
     with contextlib.ExitStack() as stack:
-        silent = stack.enter_context(socket.socket())
-        silent.bind((HOST, 0))
-        silent.listen(0)
-        # The system keeps one connection or two for who doesn't accept, and lets others wait.
-        for _ in range(4):
-            waiting = stack.enter_context(socket.socket())
-            waiting.setblocking(False)
-            with contextlib.suppress(BlockingIOError):
-                waiting.connect(silent.getsockname())
+        dark = dark_server(stack)
         port = farm.port()
         lines = ("timeout client 20s", "timeout connect 300ms", "timeout server 20s")
-        balancer = farm.start(listen(port, *lines, server("a", silent.getsockname()[1])))
+        balancer = farm.start(listen(port, *lines, server("a", dark)))
         expect_equal("the answer", ask(port, GET), own(503))
         ends_well(balancer)
 
