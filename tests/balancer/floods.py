@@ -133,3 +133,64 @@ def a_stop_waits_for_a_client_that_drips_no_longer_than_its_limit(farm: Farm) ->
             took = time.monotonic() - begin
     expect(f"it ends after the limit: {took:.1f} s", took <= 6)
     expect_equal("the end", (ended.status, ended.out), (0, "closed web events 0 rising yes\n"))
+
+
+@case
+def a_stop_waits_for_a_body_that_drips_no_longer_than_the_clients_limit(farm: Farm) -> None:
+    port = farm.port()
+    balancer = farm.start(listen(port, "timeout client 2s", "timeout server 20s", server("a", farm.origin())))
+    heads = (b"POST / HTTP/1.1\r\nHost: x\r\nContent-Length: 1000\r\n\r\n", b"POST / HTTP/1.1\r\nHost: x\r\nTransfer-Encoding: chunked\r\n\r\n3e8\r\n")
+    with Client(port) as one, Client(port) as other:
+        for client, head in zip((one, other), heads):
+            client.send(head)
+        with dripping(one, 0.3), dripping(other, 0.3):
+            threading.Event().wait(3)
+            expect("they may drip for longer than the limit", not balancer.has_ended())
+            expect_equal("the answer to `stop`", balancer.tell("stop"), "\n")
+            begin = time.monotonic()
+            ended = balancer.wait()
+            took = time.monotonic() - begin
+    expect(f"it ends after the limit, and not before: {took:.1f} s", 1.5 <= took <= 6)
+    expect_equal("the end", (ended.status, ended.out), (0, "closed web events 8 rising yes\n"))
+
+
+@case
+def a_stop_waits_for_a_slow_server_although_the_clients_limit_is_over(farm: Farm) -> None:
+    port, late = farm.port(), late_server(farm)
+    limits = ("timeout client 500", "timeout connect 20s", "timeout server 20s")
+    balancer = farm.start(listen(port, *limits, server("a", late.getsockname()[1])))
+    with Client(port) as client:
+        client.send(GET)
+        wait_until("the request is at its server", lambda: len(balancer.events("web")) == BEGUN)
+        expect_equal("the answer to `stop`", balancer.tell("stop"), "\n")
+        threading.Event().wait(2)
+        answer_next(late)
+        expect_equal("the answer", client.read_to_end(), A)
+    expect_equal("the status", balancer.wait().status, 0)
+
+
+@case
+def idle_connections_at_one_address_cost_clients_of_another_nothing(farm: Farm) -> None:
+    idle, quiet = farm.port(), farm.port()
+    limits = ("timeout client 20s", "timeout connect 20s", "timeout server 20s")
+    sections = listen(idle, *limits, server("a", farm.origin()), name="idle") + listen(
+        quiet, *limits, server("b", farm.origin()), name="quiet"
+    )
+    balancer = farm.start(sections, ("tune.relays 4",), most_files=256)
+    # More than there are descriptors for.
+    crowd = [farm.stack.enter_context(Client(idle)) for _ in range(200)]
+    wait_until("as many are connected as may be", lambda: balancer.descriptors() > 60)
+
+    def slow(_: int) -> bytes:
+        with Client(quiet) as client:
+            client.send(GET[:20])
+            # Its head is on its way meanwhile.
+            threading.Event().wait(0.5)
+            client.send(GET[20:])
+            return client.read_to_end()
+
+    expect_equal("the answers", at_once(slow, range(20)), [response(b"b")] * 20)
+    expect("the others are let go or stay", len(crowd) == 200)
+    for client in crowd:
+        client.reset()
+    ends_well(balancer, "idle", "quiet")
