@@ -119,7 +119,7 @@ fn serve<R: Host + Files, B: Naming + Send + Sync, G: SharedGate<R>>(
 }
 
 /// Runs all threads on the floor. The operators' address is free again as soon as no operator is answered any more.
-fn serve_on<R: Host, D: Seating<R> + Send + Sync, G: SharedGate<R>>(
+fn serve_on<R: Host + Files, D: Seating<R> + Send + Sync, G: SharedGate<R>>(
     rt: &R,
     floor: &Floor<'_, D, G>,
     clients: Vec<ClientDoor>,

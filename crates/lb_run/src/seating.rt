@@ -54,7 +54,7 @@ impl<B: Naming> Desks for RunDesks<'_, B> {
     ghost count = { λ run. length run.desks.now };
 }
 
-impl<'a, R: Wait, B: Naming> Seating<R> for RunDesks<'a, B> {
+impl<'a, R: Wait, B: Naming + Send + Sync> Seating<R> for RunDesks<'a, B> {
     type Seat = RunSeat<'a, B>;
 
     ghost desk_of = { λ seat. seat.pass.keeper };

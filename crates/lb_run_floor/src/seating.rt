@@ -13,7 +13,7 @@ pub trait Desks: Drop {
 /// Desks at which threads take seats.
 pub trait Seating<R>: Desks {
     /// A thread's place at a desk.
-    type Seat: Port<R> + Steer<R> + Drop;
+    type Seat: Port<R> + Steer<R> + Drop + Send;
 
     /// The number of the desk that the seat is at.
     ghost desk_of: { Self.Seat → ℕ };
