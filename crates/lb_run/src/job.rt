@@ -1,8 +1,6 @@
-ghost use Rattle.std.specs.Prelude.{◌≡◌, false, OnOk, IfOk, IsErrOf};
-ghost use Rattle.std.specs.Io.KnownBytes.{Appends};
-ghost use Rattle.lb_cli_faults.specs.Faults.{fault_line};
+ghost use Rattle.std.specs.Prelude.{◌≡◌, IfOk, IsErrOf};
 ghost use Rattle.lb_config.specs.Configs.{config_in};
-ghost use Rattle.lb_run.specs.Jobs.{IsConfigText, IsHindrance, Runs, RunsText, bind_line};
+ghost use Rattle.lb_run.specs.Jobs.{Hinders, IsConfigText, IsHindrance, PrintsFault, Runs, RunsText, bind_line};
 
 use crate::{RunFault, run_config};
 use lb_cli_faults::{JobError, config_fault_line};
@@ -71,9 +69,8 @@ fn bind_line(alloc: Global, address: &[u8]) -> Result<Vec<u8>, AllocError>
 
 /// Prints the configuration's fault.
 fn print_fault<O: Write>(alloc: Global, fault: &LocatedFault, out: &mut O) -> Result<bool, JobError>
-    ensures told { OnOk result (Appends (O.contents out.old) (O.contents out.new) (fault_line fault.now)) }
-    ensures whole { IfOk result (λ is_done. is_done ≡ false) }
-    ensures read { IsErrOf result JobError.CannotRead → ⊥ }
+    ensures prints { IfOk result (λ is_done. PrintsFault fault.now is_done (O.contents out.old) (O.contents out.new)) }
+    ensures cannot_read { IsErrOf result JobError.CannotRead → ⊥ }
 {
     let line = config_fault_line(alloc, fault)?;
     match out.write_all(&line) {
@@ -85,8 +82,7 @@ fn print_fault<O: Write>(alloc: Global, fault: &LocatedFault, out: &mut O) -> Re
 /// Prints on standard error what was in the way.
 fn print_hindrance<E: Write>(err: &mut E, line: &[u8]) -> Result<bool, JobError>
     requires { IsHindrance line.now }
-    ensures told { OnOk result (Appends (E.contents err.old) (E.contents err.new) line.now) }
-    ensures whole { IfOk result (λ is_done. is_done ≡ false) }
+    ensures { IfOk result (λ is_done. Hinders is_done (E.contents err.old) (E.contents err.new)) }
 {
     match err.write_all(line) {
         Ok(()) => Ok(false),
