@@ -10,10 +10,10 @@ mod floor;
 mod host;
 mod reports;
 mod seating;
-mod seats;
+mod taking;
 
 pub use floor::Floor;
 pub use host::{Host, SharedGate};
 pub use reports::Reports;
 pub use seating::{Desks, Seating};
-pub use seats::{backend_at, leave_all, seat_at, seats};
+pub use taking::{backend_at, leave_all, seat_at, seats};
