@@ -17,7 +17,7 @@ opened_from opening n (c ∷ cs) [] named opens = absurd opens
 opened_from opening n (c ∷ cs) (d ∷ ds) named opens =
     let here : n + 0 ≡ n = omega arith in
     let first : d.backend ≡ opening n = subst (λ (m : ℕ). d.backend ≡ opening m) here (named 0 d refl) in (
-      subst (λ (b : BackendParts). IsBackendOf c b) first opens.0,
+      subst (λ (b : BackendParts). IsBackendOf c b) first opens.0.0,
       opened_from opening (n + 1) cs ds (λ place desk at.
           let there : n + suc place ≡ (n + 1) + place = omega arith in
           subst (λ (m : ℕ). desk.backend ≡ opening m) there (named (suc place) desk at)) opens.1,

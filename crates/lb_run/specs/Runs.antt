@@ -10,14 +10,15 @@ use Rattle.lb_desk_shared.specs.declared.closing.Closing.{Closing}
 use Rattle.lb_desk_tie.specs.Receipts.{PassView}
 use Rattle.lb_run_desks.specs.Closed.{closed_line}
 
--- The desk of this backend opened as the backend that is configured, it was closed with passes whose receipts share out its one history,
--- and the line says so
+-- The desk of this backend opened as the backend that is configured, and it was closed with passes whose receipts share out its one
+-- history. Its journal has as many of the newest entries of that as the configuration allows, and the line says so
 pub record ClosedAs (config : BackendView) (line : List ℕ) : Type 0 where
   pub backend : BackendParts
   pub configured : IsBackendOf config backend
   pub passes : List (PassView Entry)
   pub closing : Closing
   pub closes : Closes backend passes closing
+  pub size : closing.journal.capacity ≡ config.journal
   pub says : line ≡ closed_line config.name closing
 
 -- the lines of all these backends, in their order

@@ -44,10 +44,11 @@ fn close_one<B: Naming>(
     requires { IsBackendOf backend.now (B.opening desk) }
     ensures { IfOk result (λ line. ClosedAs backend.now line.items) }
 {
-    match close_desk(alloc, desk, passes)? {
+    match close_desk(alloc, desk, backend.journal(), passes)? {
         ClosedDesk::Closed(closing) => {
             Ok(closed_line(alloc, backend.name().as_bytes(), &closing)?)
         }
+        ClosedDesk::Resized(_) => Err(RunFault::Resized),
         ClosedDesk::Open(fault) => Err(RunFault::StillOpen(fault)),
     }
 }

@@ -1,4 +1,5 @@
-//! The balancer as it runs: desks, listeners, workers, checks, planners and the command socket, each loop in a thread of its own.
+//! The balancer from its start to its end: its desks and addresses, and the threads of `lb_run_threads` and `lb_run_operators` in one
+//! scope.
 //!
 //! `run_config` binds all addresses first, then runs everything in one scope of threads. It returns once the command `stop` came over
 //! the command socket, or a thread had not enough memory to begin. At the end all threads have handed in their passes, and each desk
@@ -6,26 +7,19 @@
 //!
 //! Promised: where `run_config` answers `Ok`, each backend of the configuration has had one desk, which opened as that backend. It was
 //! closed as `lb_desk_shared` promises, so that the receipts of its threads share out one history of the backend, and a line for it went
-//! out. The words are in `specs/Runs.antt`. No clause says which threads run, at which desks' seats, when they end, and what sockets do;
-//! that is tested. Start at `run_config`, and at `floor` for what the threads share.
+//! out. Its journal had the size that is configured. `run_text` answers true only if that holds of the configuration that the text is. The
+//! words are in `specs/Runs.antt` and `specs/Jobs.antt`. No clause says which threads run, when they end, and what sockets do; that is
+//! tested. Start at `run_config`.
 #![tactic(auto)]
 
-mod announcer;
-mod bells;
-mod calling;
 mod closing;
-mod commands;
 mod fault;
-mod floor;
-mod host;
 mod job;
-mod reports;
 mod running;
-mod starting;
+mod seating;
 mod streams;
-mod threads;
 
 pub use fault::RunFault;
-pub use host::{Host, SharedGate};
 pub use job::run_text;
+pub use lb_run_floor::{Host, SharedGate};
 pub use running::{run_config, run_config_past};

@@ -1,28 +1,29 @@
-ghost use Rattle.std.specs.Prelude.{◌≡◌, length, OnOk};
+ghost use Rattle.std.specs.Prelude.{◌≡◌, ℕ, length, OnOk};
 ghost use Rattle.lb_run.specs.Runs.{EndsClosed};
 ghost use Rattle.lb_run_desks.specs.NewDesks.{AreNamed, Open};
+ghost use Rattle.lb_run_floor.specs.Seating.{StandInOrder};
 
+use crate::RunFault;
 use crate::closing::close_all;
-use crate::commands::OPERATORS;
-use crate::floor::Floor;
-use crate::reports::Reports;
-use crate::starting::start_and_answer;
+use crate::seating::RunDesks;
 use crate::streams::hold_closed_streams;
-use crate::{Host, RunFault, SharedGate};
 use command_socket_listen::CommandListener;
-use http_relay_work::{MOST_ON_CALL, Roster};
+use http_relay_work::MOST_ON_CALL;
 use lb_config::Config;
 use lb_desk_ports::{OpenGate, Refused};
 use lb_desk_shared::{Naming, SharedDesk};
 use lb_run_desks::{NewDesk, PassBox, named_desks, new_desks};
 use lb_run_doors::{ClientDoor, Doors};
+use lb_run_floor::{Floor, Host, Seating, SharedGate};
+use lb_run_operators::{OPERATORS, answer_operators};
+use lb_run_threads::{Started, start};
 use std::alloc::Global;
 use std::fs::Files;
 use std::hash::RandomState;
 use std::io::Write;
 use std::marker::Brand;
-use std::sync::atomic::{AtomicBool, AtomicUsize, Ordering};
 use std::thread;
+use std::thread::Scope;
 use std::time::Instant;
 
 /// Balances the load of a configuration until the command `stop` comes over its command socket; without a socket, for ever. At the end
@@ -100,41 +101,27 @@ fn serve<R: Host + Files, B: Naming + Send + Sync, G: SharedGate<R>>(
     doors: Doors,
     gate: G,
 ) -> Result<(), RunFault>
-    requires { length desks.now ≡ length config.now.backends }
+    requires count { length desks.now ≡ length config.now.backends }
+    requires order { StandInOrder (λ (number : ℕ). number) desks.now }
 {
-    let stop = AtomicBool::new(false);
-    let cut = AtomicBool::new(false);
-    let starved = AtomicBool::new(false);
-    let reports = Reports::new();
-    let roster = Roster::new(alloc, config.relays())?;
-    let listeners = AtomicUsize::new(0);
-    let floor = Floor {
+    let desks = RunDesks {
         alloc,
-        config,
         desks,
         passes,
-        reports: &reports,
-        roster: &roster,
-        listeners: &listeners,
-        stop: &stop,
-        cut: &cut,
-        starved: &starved,
-        start,
-        gate,
     };
+    let floor = Floor::new(alloc, config, desks, start, gate)?;
     let Doors { clients, commands } = doors;
     let served = serve_on(rt, &floor, clients, commands);
-    drop(floor);
-    if served.is_err() || starved.load(Ordering::SeqCst) {
+    if served.is_err() || floor.is_starved() {
         return Err(RunFault::Memory);
     }
     Ok(())
 }
 
 /// Runs all threads on the floor. The operators' address is free again as soon as no operator is answered any more.
-fn serve_on<R: Host + Files, B: Naming + Send + Sync, G: SharedGate<R>>(
+fn serve_on<R: Host + Files, D: Seating<R> + Send + Sync, G: SharedGate<R>>(
     rt: &R,
-    floor: &Floor<'_, B, G>,
+    floor: &Floor<'_, D, G>,
     clients: Vec<ClientDoor>,
     operators: Option<CommandListener>,
 ) -> Result<(), Refused> {
@@ -147,4 +134,23 @@ fn serve_on<R: Host + Files, B: Naming + Send + Sync, G: SharedGate<R>>(
         }
         served
     })
+}
+
+/// Starts all threads, and returns once the balancer is to end and operators are answered no more. Returning, it has let go of all
+/// channels, by whose ends checks and planners end.
+fn start_and_answer<'s, E, R: Host, D: Seating<R> + Send + Sync, G: SharedGate<R>>(
+    rt: &'s R,
+    scope: &'s Scope<'s, E>,
+    floor: &'s Floor<'s, D, G>,
+    clients: Vec<ClientDoor>,
+    operators: Option<&CommandListener>,
+) -> Result<(), Refused> {
+    let Started { bells, checks_end } = start(rt, scope, floor, clients)?;
+    match operators {
+        Some(listener) => Ok(answer_operators(rt, floor, listener, bells, checks_end)?),
+        None => {
+            floor.wait_for_end(rt);
+            Ok(())
+        }
+    }
 }

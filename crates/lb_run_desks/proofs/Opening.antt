@@ -1,22 +1,21 @@
 -- Desks of a list of backends, one more at a time.
 use Rattle.std.proofs.Common.{◌≡◌, ◌<◌, ◌∙◌, ℕ, zero, suc, ◌+◌, List, [], ◌∷◌, ◌++◌, length, take, get_or, refl, ap, subst, arith}
 use Rattle.lb_config.specs.ConfigViews.{BackendView}
-use Rattle.lb_desk_backend.specs.Configured.{IsBackendOf}
 use Rattle.lb_run_desks.specs.NewDeskView.{NewDeskView}
-use Rattle.lb_run_desks.specs.NewDesks.{Open}
+use Rattle.lb_run_desks.specs.NewDesks.{Open, OpensAs}
 
 Open-next : (i : ℕ) (configs : List BackendView) (desks : List NewDeskView) (config : BackendView) (desk : NewDeskView)
-    → i < length configs → config ≡ get_or configs i config → Open (take i configs) desks → IsBackendOf config desk.backend
+    → i < length configs → config ≡ get_or configs i config → Open (take i configs) desks → OpensAs config desk
     → Open (take (suc i) configs) (desks ++ desk ∷ [])
 Open-next i [] desks config desk within here opens is = absurd (omega arith)
-Open-next zero (c ∷ cs) [] config desk within here opens is = (subst (λ (b : BackendView). IsBackendOf b desk.backend) here is, tt)
+Open-next zero (c ∷ cs) [] config desk within here opens is = (subst (λ (b : BackendView). OpensAs b desk) here is, tt)
 Open-next zero (c ∷ cs) (d ∷ ds) config desk within here opens is = absurd opens
 Open-next (suc i) (c ∷ cs) [] config desk within here opens is = absurd opens
 Open-next (suc i) (c ∷ cs) (d ∷ ds) config desk within here opens is = (opens.0, Open-next i cs ds config desk (omega arith) here opens.1 is)
 
 -- the desk of the next backend
 pub Open-more : (i : ℕ) (configs : List BackendView) (desks : List NewDeskView) (config : BackendView) (desk : NewDeskView)
-    → i < length configs → config ≡ get_or configs i config → Open (take i configs) desks → IsBackendOf config desk.backend
+    → i < length configs → config ≡ get_or configs i config → Open (take i configs) desks → OpensAs config desk
     → Open (take (i + 1) configs) (desks ++ desk ∷ [])
 Open-more i configs desks config desk within here opens is =
     let same : suc i ≡ i + 1 = omega arith in

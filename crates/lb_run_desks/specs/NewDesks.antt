@@ -8,10 +8,14 @@ use Rattle.lb_desk_shared.specs.Desks.{no_backend}
 use Rattle.lb_desk_tie.specs.Rule.{no_table}
 use Rattle.lb_run_desks.specs.NewDeskView.{NewDeskView}
 
--- each of the backends has one desk, which opened with it, in their order
+-- the desk opened with the backend that is configured, and with a journal of the size that the configuration says
+abbrev pub OpensAs : BackendView → NewDeskView → Type 0
+OpensAs config desk = IsBackendOf config desk.backend × (desk.journal ≡ config.journal)
+
+-- each of the backends has one desk, which opened as it is configured, in their order
 abbrev pub Open : List BackendView → List NewDeskView → Type 0
 Open [] [] = Unit {0}
-Open (config ∷ configs) (desk ∷ desks) = IsBackendOf config desk.backend × Open configs desks
+Open (config ∷ configs) (desk ∷ desks) = OpensAs config desk × Open configs desks
 Open [] (desk ∷ desks) = ⊥
 Open (config ∷ configs) [] = ⊥
 

@@ -4,9 +4,9 @@
 //! `named_desks` makes them desks for many threads, numbered by the places of their backends. Threads hand in their passes at a
 //! `PassBox`; once all threads have ended, `close_desk` closes a desk with the passes that are its own.
 //!
-//! Promised: `new_desks` opens each backend of the configuration and nothing else, in their order. `close_desk` closes a desk as
-//! `lb_desk_shared` promises: the receipts of its passes share out one history of its backend. Start at `new_desks`; the words are in
-//! `specs/NewDesks.antt` and `specs/Closed.antt`. Private to `lb_run`.
+//! Promised: `new_desks` opens each backend of the configuration and nothing else, in their order, each with a journal of the size that is
+//! configured. `close_desk` closes a desk as `lb_desk_shared` promises: the receipts of its passes share out one history of its backend.
+//! Start at `new_desks`; the words are in `specs/NewDesks.antt` and `specs/Closed.antt`. Private to `lb_run`.
 #![tactic(auto)]
 
 mod closing;

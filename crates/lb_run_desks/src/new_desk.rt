@@ -1,6 +1,5 @@
 ghost use Rattle.std.specs.Prelude.{◌≡◌, [], IfOk};
-ghost use Rattle.lb_desk_backend.specs.Configured.{IsBackendOf};
-ghost use Rattle.lb_run_desks.specs.NewDesks.{Open};
+ghost use Rattle.lb_run_desks.specs.NewDesks.{Open, OpensAs};
 
 use lb_config::BackendConfig;
 use lb_desk_backend::backend_of;
@@ -12,7 +11,8 @@ use std::alloc::{AllocError, Global};
 use std::hash::{BuildHasher, RandomState};
 use std::marker::Model;
 
-/// The desk of a backend at its opening, with a table for receipts, which nobody uses yet. Contracts see the table and the backend.
+/// The desk of a backend at its opening, with a table for receipts, which nobody uses yet. Contracts see the table, the
+/// backend and the size of the journal.
 #[derive(Drop)]
 pub struct NewDesk<S: BuildHasher> {
     table: Opened<Entry>,
@@ -27,7 +27,7 @@ impl<S: BuildHasher> Model for NewDesk<S> {
 
     ghost Value = { NewDeskView };
 
-    ghost view = { λ d. record { table = d.table; backend = d.backend } };
+    ghost view = { λ d. record { table = d.table; backend = d.backend; journal = d.desk.journal.capacity } };
 
     ghost invariant = { λ d. StandsAt d.backend [] d.desk };
 }
@@ -35,7 +35,7 @@ impl<S: BuildHasher> Model for NewDesk<S> {
 impl<S: BuildHasher + Drop> NewDesk<S> {
     /// Opens the backend. Its journal takes its memory here, whole. The only error is out of memory.
     pub fn open(alloc: Global, config: &BackendConfig, hasher: S) -> Result<Self, AllocError>
-        ensures { IfOk result (λ new. IsBackendOf config.now new.backend) }
+        ensures { IfOk result (OpensAs config.now) }
     {
         let table = Opened::new(alloc)?;
         let backend = backend_of(alloc, config)?;

@@ -1,14 +1,20 @@
 use Rattle.std.proofs.Common.{◌∙◌, ap, sym, subst, ℕ, List, length}
 use Rattle.lb_run_desks.proofs.Opening.{Open-length}
+use Rattle.lb_run_floor.specs.Seating.{StandInOrder}
 use Rattle.lb_run.specs.Runs.{AreOpened}
 use Rattle.lb_run.proofs.Closings.{all_opened}
 use Rattle.lb_run.proofs.Counting.{length-numbers}
+use Rattle.lb_run.proofs.Order.{numbered}
 use Rattle.lb_run.proofs.running.run_named.Goals as goal
 
-pub serve-requires-after_bounds : goal.serve-requires-after_bounds
-serve-requires-after_bounds g c κs within =
+pub serve-requires-clause-count-after_bounds : goal.serve-requires-clause-count-after_bounds
+serve-requires-clause-count-after_bounds g c κs within =
     ap (λ l. length l) c.deref.ensures.value ∙ ap (λ l. length l) c.in_ok-desks.ensures ∙ length-numbers c.args.desks.items
     ∙ Open-length c.args.config.now.backends c.args.desks.items c.requires.opened
+
+pub serve-requires-clause-order-after_bounds : goal.serve-requires-clause-order-after_bounds
+serve-requires-clause-order-after_bounds g c κs within =
+    subst (λ (l : List ℕ). StandInOrder (λ (number : ℕ). number) l) (sym (c.deref.ensures.value ∙ c.in_ok-desks.ensures)) (numbered c.args.desks.items)
 
 pub close_all-requires : goal.close_all-requires
 close_all-requires g c =

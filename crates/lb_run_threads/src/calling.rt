@@ -1,11 +1,9 @@
 //! Calling workers while those at the line are held by their requests.
-use crate::floor::Floor;
 use crate::threads::relay_on_call;
-use crate::{Host, SharedGate};
 use crossbeam_channel::{Receiver, Sender};
 use http_relay_lobby::WaitingLine;
 use http_relay_work::Watch;
-use lb_desk_shared::Naming;
+use lb_run_floor::{Desks, Floor, Host, Seating, SharedGate};
 use std::alloc::AllocError;
 use std::net::TcpStream;
 use std::sync::atomic::Ordering;
@@ -16,15 +14,15 @@ const STACK: usize = 524_288;
 
 /// Watches the workers, and calls others if too few are at work, until no listener is left and no client waits, or no worker is left. The
 /// workers that it made end after it: those that rest because no more calls come, the others by the end of the line.
-pub(crate) fn call_workers<'s, E, R: Host, B: Naming + Send + Sync, G: SharedGate<R>>(
+pub(crate) fn call_workers<'s, E, R: Host, D: Seating<R> + Send + Sync, G: SharedGate<R>>(
     rt: &'s R,
     scope: &'s Scope<'s, E>,
-    floor: &'s Floor<'s, B, G>,
+    floor: &'s Floor<'s, D, G>,
     line: WaitingLine<TcpStream>,
     to: Sender<()>,
     calls: Receiver<()>,
 ) {
-    let Ok(mut watch) = Watch::new(floor.alloc, floor.roster, floor.config.relays()) else {
+    let Ok(mut watch) = Watch::new(floor.alloc, &floor.roster, floor.config.relays()) else {
         floor.starve();
         return;
     };
@@ -45,8 +43,8 @@ pub(crate) fn call_workers<'s, E, R: Host, B: Naming + Send + Sync, G: SharedGat
 }
 
 /// Whether, at a stop, no client waits and none will come, or no worker is left that could serve one.
-fn no_more_to_call_for<B: Naming, G: Drop>(
-    floor: &Floor<'_, B, G>,
+fn no_more_to_call_for<D: Desks, G: Drop>(
+    floor: &Floor<'_, D, G>,
     line: &WaitingLine<TcpStream>,
 ) -> bool {
     let no_more_come = floor.listeners.load(Ordering::SeqCst) == 0 && line.is_empty();
@@ -54,10 +52,10 @@ fn no_more_to_call_for<B: Naming, G: Drop>(
 }
 
 /// Makes one worker on call more. The error is that there are as many as may be, or that there is no memory for it, or no thread.
-fn make_one<'s, E, R: Host, B: Naming + Send + Sync, G: SharedGate<R>>(
+fn make_one<'s, E, R: Host, D: Seating<R> + Send + Sync, G: SharedGate<R>>(
     rt: &'s R,
     scope: &'s Scope<'s, E>,
-    floor: &'s Floor<'s, B, G>,
+    floor: &'s Floor<'s, D, G>,
     line: &WaitingLine<TcpStream>,
     calls: &Receiver<()>,
     watch: &mut Watch<'_>,

@@ -1,30 +1,18 @@
 //! Starting threads. Each runs in the scope that it is given, and ends by the flag of the floor or by the end of a channel.
-use crate::bells::copy_of;
 use crate::calling::call_workers;
-use crate::commands::answer_operators;
-use crate::floor::Floor;
-use crate::reports::Reports;
 use crate::threads::{check, listen, plan, relay};
-use crate::{Host, SharedGate};
-use command_socket_listen::CommandListener;
-use crossbeam_channel::{Receiver, bounded};
+use crossbeam_channel::{Receiver, Sender, bounded};
 use http_relay_listen::OtherFiles;
 use http_relay_lobby::{Lane, WaitingLine, waiting_line};
 use http_relay_work::MOST_ON_CALL;
 use lb_config::{BackendConfig, Config};
 use lb_desk_planner::Bell;
 use lb_desk_ports::Refused;
-use lb_desk_shared::Naming;
 use lb_run_doors::ClientDoor;
+use lb_run_floor::{Floor, Host, Reports, Seating, SharedGate};
 use std::alloc::{AllocError, Global};
 use std::net::TcpStream;
-use std::sync::atomic::Ordering;
-use std::thread;
 use std::thread::Scope;
-use std::time::Duration;
-
-/// How many milliseconds pass between two looks at the flag.
-const TICK_MILLIS: u64 = 100;
 
 /// How many files a listener needs: one to watch its clients, and two for a client that waits at its door.
 const FILES_A_LISTENER: usize = 3;
@@ -32,16 +20,23 @@ const FILES_A_LISTENER: usize = 3;
 /// How many files operators' connections and files that are read or written need.
 const MORE_FILES: usize = 32;
 
-/// Starts all threads, and returns once the balancer is to end and operators are answered no more. Returning, it has let go of all
-/// channels, by whose ends checks and planners end.
-pub(crate) fn start_and_answer<'s, E, R: Host, B: Naming + Send + Sync, G: SharedGate<R>>(
+/// What keeps planners and checks at work. Both end once it is let go.
+#[derive(Drop)]
+pub struct Started {
+    /// The bells of the planners, at their backends' places.
+    pub bells: Vec<Option<Bell>>,
+    /// The end of the channel by which checks learn that they are to end.
+    pub checks_end: Sender<()>,
+}
+
+/// Starts all threads but those that answer operators.
+pub fn start<'s, E, R: Host, D: Seating<R> + Send + Sync, G: SharedGate<R>>(
     rt: &'s R,
     scope: &'s Scope<'s, E>,
-    floor: &'s Floor<'s, B, G>,
+    floor: &'s Floor<'s, D, G>,
     doors: Vec<ClientDoor>,
-    operators: Option<&CommandListener>,
-) -> Result<(), Refused> {
-    say_listening(rt, floor.alloc, floor.reports, &doors)?;
+) -> Result<Started, Refused> {
+    say_listening(rt, floor.alloc, &floor.reports, &doors)?;
     let (lanes, line) = waiting_line(floor.alloc, doors.len())?;
     let files = other_files(floor.config, &doors);
     let (checks_end, ends) = bounded(floor.alloc, 1)?;
@@ -50,13 +45,7 @@ pub(crate) fn start_and_answer<'s, E, R: Host, B: Naming + Send + Sync, G: Share
     start_workers(rt, scope, floor, &line)?;
     start_calls(rt, scope, floor, line)?;
     start_listeners(rt, scope, floor, doors, lanes, files)?;
-    match operators {
-        Some(listener) => Ok(answer_operators(rt, floor, listener, bells, checks_end)?),
-        None => {
-            wait_for_end(rt, floor);
-            Ok(())
-        }
-    }
+    Ok(Started { bells, checks_end })
 }
 
 /// Writes to standard error where clients can connect.
@@ -76,21 +65,11 @@ fn say_listening<R: Host>(
     Ok(())
 }
 
-/// Waits until a thread ends the balancer.
-pub(crate) fn wait_for_end<R: Host, B: Naming, G: Drop>(rt: &R, floor: &Floor<'_, B, G>) {
-    for _ in rt.forever() {
-        if floor.stop.load(Ordering::SeqCst) {
-            break;
-        }
-        thread::sleep(rt, Duration::from_millis(TICK_MILLIS));
-    }
-}
-
 /// Starts the planner of each backend that moves pins by itself, and gives their bells, at the backends' places.
-fn start_planners<'s, E, R: Host, B: Naming + Send + Sync, G: SharedGate<R>>(
+fn start_planners<'s, E, R: Host, D: Seating<R> + Send + Sync, G: SharedGate<R>>(
     rt: &'s R,
     scope: &'s Scope<'s, E>,
-    floor: &'s Floor<'s, B, G>,
+    floor: &'s Floor<'s, D, G>,
 ) -> Result<Vec<Option<Bell>>, AllocError> {
     let mut bells = Vec::new(floor.alloc);
     for (place, backend) in floor.config.backends().iter().enumerate() {
@@ -106,10 +85,10 @@ fn start_planners<'s, E, R: Host, B: Naming + Send + Sync, G: SharedGate<R>>(
 }
 
 /// Starts the thread that checks servers of each backend that has such servers.
-fn start_checks<'s, E, R: Host, B: Naming + Send + Sync, G: SharedGate<R>>(
+fn start_checks<'s, E, R: Host, D: Seating<R> + Send + Sync, G: SharedGate<R>>(
     rt: &'s R,
     scope: &'s Scope<'s, E>,
-    floor: &'s Floor<'s, B, G>,
+    floor: &'s Floor<'s, D, G>,
     bells: &[Option<Bell>],
     ends: Receiver<()>,
 ) -> Result<(), AllocError> {
@@ -142,16 +121,16 @@ fn files_of_checks(backend: &BackendConfig) -> usize {
 
 fn bell_at(bells: &[Option<Bell>], place: usize) -> Result<Option<Bell>, AllocError> {
     match bells.get(place) {
-        Some(bell) => copy_of(bell),
-        None => Ok(None),
+        Some(Some(bell)) => Ok(Some(bell.clone()?)),
+        _ => Ok(None),
     }
 }
 
 /// Starts as many workers as the configuration says.
-fn start_workers<'s, E, R: Host, B: Naming + Send + Sync, G: SharedGate<R>>(
+fn start_workers<'s, E, R: Host, D: Seating<R> + Send + Sync, G: SharedGate<R>>(
     rt: &'s R,
     scope: &'s Scope<'s, E>,
-    floor: &'s Floor<'s, B, G>,
+    floor: &'s Floor<'s, D, G>,
     line: &WaitingLine<TcpStream>,
 ) -> Result<(), AllocError> {
     for place in 0..usize::from(floor.config.relays()) {
@@ -163,10 +142,10 @@ fn start_workers<'s, E, R: Host, B: Naming + Send + Sync, G: SharedGate<R>>(
 }
 
 /// Starts the thread that calls workers while too few are at work.
-fn start_calls<'s, E, R: Host, B: Naming + Send + Sync, G: SharedGate<R>>(
+fn start_calls<'s, E, R: Host, D: Seating<R> + Send + Sync, G: SharedGate<R>>(
     rt: &'s R,
     scope: &'s Scope<'s, E>,
-    floor: &'s Floor<'s, B, G>,
+    floor: &'s Floor<'s, D, G>,
     line: WaitingLine<TcpStream>,
 ) -> Result<(), AllocError> {
     let (to, calls) = bounded(floor.alloc, MOST_ON_CALL)?;
@@ -193,10 +172,10 @@ fn other_files(config: &Config, doors: &[ClientDoor]) -> OtherFiles {
 }
 
 /// Starts a listener at each door, with a lane of the line for each, so that the workers end after the last of them.
-fn start_listeners<'s, E, R: Host, B: Naming + Send + Sync, G: SharedGate<R>>(
+fn start_listeners<'s, E, R: Host, D: Seating<R> + Send + Sync, G: SharedGate<R>>(
     rt: &'s R,
     scope: &'s Scope<'s, E>,
-    floor: &'s Floor<'s, B, G>,
+    floor: &'s Floor<'s, D, G>,
     doors: Vec<ClientDoor>,
     lanes: Vec<Lane<TcpStream>>,
     files: OtherFiles,

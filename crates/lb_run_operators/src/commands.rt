@@ -1,10 +1,7 @@
-//! Answering operators, several at a time.
 ghost use Rattle.std.specs.Prelude.{◌≡◌, length, IfOk};
+ghost use Rattle.lb_run_floor.specs.Seating.{StandInOrder};
 
 use crate::bells::{Bells, copies_of};
-use crate::floor::{Floor, RunSeat};
-use crate::starting::wait_for_end;
-use crate::{Host, SharedGate};
 use command_socket_listen::{CommandListener, LineStream};
 use command_socket_serve::{Console, Next, named_backend, serve_connection};
 use crossbeam_channel::Sender;
@@ -15,7 +12,7 @@ use lb_desk_backend::backend_of;
 use lb_desk_model::Backend;
 use lb_desk_planner::Bell;
 use lb_desk_ports::Refused;
-use lb_desk_shared::Naming;
+use lb_run_floor::{Floor, Host, Seating, SharedGate, leave_all, seats};
 use std::alloc::{AllocError, Global};
 use std::sync::atomic::{AtomicBool, Ordering};
 use std::thread;
@@ -23,7 +20,7 @@ use std::thread::Scope;
 use std::time::Duration;
 
 /// How many operators are answered at a time. So many silent or slow ones are needed to keep another one out.
-pub(crate) const OPERATORS: usize = 4;
+pub const OPERATORS: usize = 4;
 
 /// The room through which the rest of an operator's bytes is read and dropped.
 const ROOM: usize = 4096;
@@ -33,9 +30,9 @@ const LOOK_MILLIS: u64 = 20;
 
 /// Answers operators, some at a time, until the balancer is to end and no worker is left: so they are answered also after `stop`, while
 /// requests are finished. `checks_end` is let go once the balancer is to end, and the checks end by that.
-pub(crate) fn answer_operators<R: Host, B: Naming + Send + Sync, G: SharedGate<R>>(
+pub fn answer_operators<R: Host, D: Seating<R> + Send + Sync, G: SharedGate<R>>(
     rt: &R,
-    floor: &Floor<'_, B, G>,
+    floor: &Floor<'_, D, G>,
     listener: &CommandListener,
     bells: Vec<Option<Bell>>,
     checks_end: Sender<()>,
@@ -48,7 +45,7 @@ pub(crate) fn answer_operators<R: Host, B: Naming + Send + Sync, G: SharedGate<R
             floor.stop();
         }
         drop(bells);
-        wait_for_end(rt, floor);
+        floor.wait_for_end(rt);
         drop(checks_end);
         wait_for_workers(rt, floor);
         is_over.store(true, Ordering::SeqCst);
@@ -57,10 +54,10 @@ pub(crate) fn answer_operators<R: Host, B: Naming + Send + Sync, G: SharedGate<R
 }
 
 /// Starts the threads that answer operators.
-fn start_operators<'s, E, R: Host, B: Naming + Send + Sync, G: SharedGate<R>>(
+fn start_operators<'s, E, R: Host, D: Seating<R> + Send + Sync, G: SharedGate<R>>(
     rt: &'s R,
     scope: &'s Scope<'s, E>,
-    floor: &'s Floor<'s, B, G>,
+    floor: &'s Floor<'s, D, G>,
     listener: &'s CommandListener,
     bells: &[Option<Bell>],
     is_over: &'s AtomicBool,
@@ -75,20 +72,25 @@ fn start_operators<'s, E, R: Host, B: Naming + Send + Sync, G: SharedGate<R>>(
     Ok(())
 }
 
-/// Waits until each worker has finished its requests and ended.
-fn wait_for_workers<R: Host, B: Naming, G: Drop>(rt: &R, floor: &Floor<'_, B, G>) {
+/// Waits until each worker has finished its requests and ended. Clients that alone hold this up for longer than they may are cut off.
+fn wait_for_workers<R: Host, D: Seating<R>, G: Drop>(rt: &R, floor: &Floor<'_, D, G>) {
     for _ in rt.forever() {
         if floor.roster.is_empty() {
             break;
         }
+        let now = match floor.start.elapsed(rt) {
+            Ok(passed) => u64::try_from(passed.as_millis()).unwrap_or(u64::MAX),
+            Err(_) => 0,
+        };
+        floor.roster.cut_off_late(rt, now.max(1));
         thread::sleep(rt, Duration::from_millis(LOOK_MILLIS));
     }
 }
 
 /// Answers one operator after another, from the thread's first seat to its last pass.
-fn answer_some<R: Host, B: Naming, G: SharedGate<R>>(
+fn answer_some<R: Host, D: Seating<R>, G: SharedGate<R>>(
     rt: &R,
-    floor: &Floor<'_, B, G>,
+    floor: &Floor<'_, D, G>,
     listener: &CommandListener,
     bells: Bells<'_, R>,
     is_over: &AtomicBool,
@@ -99,9 +101,9 @@ fn answer_some<R: Host, B: Naming, G: SharedGate<R>>(
 }
 
 /// The same. The error is that the thread can't begin.
-fn answer_at_seats<R: Host, B: Naming, G: SharedGate<R>>(
+fn answer_at_seats<R: Host, D: Seating<R>, G: SharedGate<R>>(
     rt: &R,
-    floor: &Floor<'_, B, G>,
+    floor: &Floor<'_, D, G>,
     listener: &CommandListener,
     bells: Bells<'_, R>,
     is_over: &AtomicBool,
@@ -111,25 +113,27 @@ fn answer_at_seats<R: Host, B: Naming, G: SharedGate<R>>(
     let names = names_of(floor.alloc, configs, &backends)?;
     let console = Console::new(floor.config, &names, &floor.gate);
     let mut bells = bells;
-    let mut seats = floor.seats(rt)?;
+    let mut seats = seats(rt, floor)?;
     answer_each(
         rt, floor, listener, &console, &mut seats, &mut bells, is_over,
     );
-    floor.leave_all(rt, seats);
+    leave_all(rt, floor, seats);
     Ok(())
 }
 
-/// Answers one operator after another until it is over. The command `stop` asks all threads to end, and a second one cuts off open requests.
-fn answer_each<R: Host, B: Naming, G: SharedGate<R>>(
+/// Answers one operator after another until it is over. The command `stop` asks all threads to end, and a second one cuts off open
+/// requests.
+fn answer_each<R: Host, D: Seating<R>, G: SharedGate<R>>(
     rt: &R,
-    floor: &Floor<'_, B, G>,
+    floor: &Floor<'_, D, G>,
     listener: &CommandListener,
     console: &Console<'_, G>,
-    seats: &mut [RunSeat<'_, B>],
+    seats: &mut [D::Seat],
     bells: &mut Bells<'_, R>,
     is_over: &AtomicBool,
 )
-    requires { length seats.old ≡ length console.now.config.backends }
+    requires count { length seats.old ≡ length console.now.config.backends }
+    requires order { StandInOrder D.desk_of seats.old }
 {
     let mut room = [0; ROOM];
     for _ in rt.forever() {

@@ -1,5 +1,5 @@
 use Rattle.std.proofs.Common.{◌≡◌, length}
-use Rattle.lb_run.proofs.commands.answer_each.Given as goal
+use Rattle.lb_run_operators.proofs.commands.answer_each.Given as goal
 
 -- a seat at each desk, however many operators were answered
 abbrev pub invariant-loop : goal.invariant-loop

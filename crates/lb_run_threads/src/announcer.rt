@@ -1,9 +1,9 @@
 ghost use Rattle.std.specs.Prelude.{None};
 
-use crate::reports::Reports;
 use check_workers_loop::{Flipped, Flips, flip_line};
 use lb_config::BackendConfig;
 use lb_desk_planner::Bell;
+use lb_run_floor::Reports;
 use std::alloc::{AllocError, Global};
 use std::sync::Wait;
 

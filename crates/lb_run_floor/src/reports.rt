@@ -11,19 +11,19 @@ const STANDARD_ERROR: i32 = 2;
 /// no check and no stop waits for that reader. The next line that is written comes after one with that count. A pipe keeps some 1,000
 /// lines for its reader before it takes no more.
 #[derive(Drop)]
-pub(crate) struct Reports {
+pub struct Reports {
     left_out: AtomicU64,
 }
 
 impl Reports {
-    pub(crate) fn new() -> Self {
+    pub fn new() -> Self {
         Reports {
             left_out: AtomicU64::new(0),
         }
     }
 
     /// Writes the line, of at most 2,048 bytes, or leaves it out. It costs a system call more than the write.
-    pub(crate) fn say<R: Eprint>(&self, rt: &R, line: &[u8]) {
+    pub fn say<R: Eprint>(&self, rt: &R, line: &[u8]) {
         if !takes_lines() {
             self.left_out.fetch_add(1, Ordering::SeqCst);
             return;

@@ -1,5 +1,5 @@
 use Rattle.std.proofs.Common.{◌≡◌, ◌≤◌, ◌-◌, length}
-use Rattle.lb_run.proofs.commands.names_of.Given as goal
+use Rattle.lb_run_operators.proofs.commands.names_of.Given as goal
 
 -- a name for each backend so far
 abbrev pub invariant-loop-place : goal.invariant-loop-place

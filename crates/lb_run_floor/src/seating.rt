@@ -1,0 +1,32 @@
+ghost use Rattle.std.specs.Prelude.{◌≡◌, ℕ, length, IfOk};
+ghost use Rattle.lb_run_floor.specs.Seating.{StandInOrder};
+
+use lb_desk_ports::{Port, Refused};
+use lb_desk_steer::Steer;
+
+/// The desks of a configuration's backends, each with its backend's place as its number.
+pub trait Desks: Drop {
+    /// How many there are.
+    ghost count: { Self → ℕ };
+}
+
+/// Desks at which threads take seats.
+pub trait Seating<R>: Desks {
+    /// A thread's place at a desk.
+    type Seat: Port<R> + Steer<R> + Drop + Send;
+
+    /// The number of the desk that the seat is at.
+    ghost desk_of: { Self.Seat → ℕ };
+
+    /// A seat at the desk of this number. Refused where a desk's `enter` is, and if no desk has the number.
+    fn seat_at(&self, rt: &R, number: usize) -> Result<Self::Seat, Refused>
+        ensures { IfOk result (λ seat. desk_of seat ≡ number) };
+
+    /// A seat at each desk, in the order of their numbers. Refused where a desk's `enter` is, and when out of memory.
+    fn seats(&self, rt: &R) -> Result<Vec<Self::Seat>, Refused>
+        ensures count { IfOk result (λ seats. length seats.items ≡ Self.count self.now) }
+        ensures order { IfOk result (λ seats. StandInOrder desk_of seats.items) };
+
+    /// Takes a seat that its thread leaves.
+    fn leave(&self, rt: &R, seat: Self::Seat);
+}

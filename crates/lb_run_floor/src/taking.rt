@@ -1,0 +1,47 @@
+//! Taking seats, and leaving them.
+ghost use Rattle.std.specs.Prelude.{◌≡◌, length, slice_get, IfOk};
+ghost use Rattle.std.specs.Option.{option_copied};
+ghost use Rattle.lb_run_floor.specs.Seating.{StandInOrder};
+
+use crate::{Desks, Floor, Seating};
+use lb_config::BackendConfig;
+use lb_desk_ports::Refused;
+
+/// A seat at the desk of the backend at this place, if there is one.
+pub fn seat_at<R, D: Seating<R>, G: Drop>(
+    rt: &R,
+    floor: &Floor<'_, D, G>,
+    place: usize,
+) -> Result<D::Seat, Refused>
+    ensures { IfOk result (λ seat. D.desk_of seat ≡ place) }
+{
+    floor.desks.seat_at(rt, place)
+}
+
+/// A seat at each desk, in the order of the backends.
+pub fn seats<R, D: Seating<R>, G: Drop>(
+    rt: &R,
+    floor: &Floor<'_, D, G>,
+) -> Result<Vec<D::Seat>, Refused>
+    ensures count { IfOk result (λ seats. length seats.items ≡ length floor.now.config.now.backends) }
+    ensures order { IfOk result (λ seats. StandInOrder D.desk_of seats.items) }
+{
+    floor.desks.seats(rt)
+}
+
+/// Takes all seats that a thread leaves.
+pub fn leave_all<R, D: Seating<R>, G: Drop>(rt: &R, floor: &Floor<'_, D, G>, seats: Vec<D::Seat>) {
+    for seat in seats {
+        floor.desks.leave(rt, seat);
+    }
+}
+
+/// The backend at this place, if there is one.
+pub fn backend_at<'a, D: Desks, G: Drop>(
+    floor: &Floor<'a, D, G>,
+    place: usize,
+) -> Option<&'a BackendConfig>
+    ensures { option_copied result ≡ slice_get floor.now.config.now.backends place }
+{
+    floor.config.backends().get(place)
+}
