@@ -2,4 +2,5 @@ pub mod Answering
 pub mod Placing
 pub mod Printings
 pub mod Reading
+pub mod Showing
 pub mod Telling

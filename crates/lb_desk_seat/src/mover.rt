@@ -49,6 +49,7 @@ impl<R: Wait, S: BuildHasher, B: Naming> Mover<R> for Seat<'_, S, B> {
         answer
     }
 
+    #[tactic(auto, using(crate::proofs::Asking::plan_adds))]
     fn plan_now(&mut self, rt: &R) -> Result<Score, Refused> {
         self.planned_now = self.planned_now.saturating_add(1);
         let answer = self.desk.plan_now(rt, &mut self.pass);

@@ -22,6 +22,7 @@ impl<S: BuildHasher, B: Naming> Seat<'_, S, B> {
         Ok(asked(&reply))
     }
 
+    #[tactic(auto, using(crate::proofs::Asking::shutting_adds))]
     fn give_back<R: Wait>(&mut self, rt: &R, slot: Slot) -> Result<Shut, Refused>
         ensures { Adds self.old self.new (shutting_entries slot.server result) }
     {
@@ -56,6 +57,7 @@ impl<R: Wait, S: BuildHasher, B: Naming> Port<R> for Seat<'_, S, B> {
         answer
     }
 
+    #[tactic(auto, using(crate::proofs::Asking::opening_adds))]
     fn open(&mut self, rt: &R, server: ServerId) -> Result<Opening<Slot>, Refused> {
         let answer = self.desk.open(rt, &mut self.pass, server);
         self.count(&answer);

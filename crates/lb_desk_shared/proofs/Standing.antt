@@ -11,14 +11,15 @@ use Rattle.lb_desk_model.specs.Backends.{BackendParts}
 use Rattle.lb_desk_model.specs.Worn.{open_connections}
 use Rattle.lb_desk_ports.specs.Calls.{entry}
 use Rattle.lb_desk_step.specs.declared.taken.TakenPlan.{TakenPlan}
-use Rattle.lb_desk_step.specs.Desk.{DeskView, KeepsHeadline, StandsAt, Takes}
+use Rattle.lb_desk_seen.specs.Logs.{HeadlineOfALog}
+use Rattle.lb_desk_step.specs.Desk.{DeskView, StandsAt, Takes}
 use Rattle.lb_desk_step.specs.Planning.{TakesPlan}
 use Rattle.lb_desk_tie.specs.Receipts.{IsSound, PassView, Shares, receipts_of, with_receipt}
 use Rattle.lb_desk_shared.specs.declared.closing.CloseFault.{CloseFault}
 use Rattle.lb_desk_shared.specs.declared.closing.CloseFault.TheVariants.{PassesOut, SlotsOut}
 use Rattle.lb_desk_shared.specs.Calls.{AddsPlan, IsStepAt}
 use Rattle.lb_desk_shared.specs.Closing.{Closes, fault_of}
-use Rattle.lb_desk_shared.specs.Desks.{TiedView}
+use Rattle.lb_desk_shared.specs.Desks.{IsReached, TiedView}
 
 pub some_same : {A : Type 0} (x y : A) → Some x ≡ Some y → x ≡ y
 some_same x y is = ap (λ o. unwrap_or o x) is
@@ -40,6 +41,11 @@ is_step backend history receipts old new number event reply at sound takes is =
       step = next.step;
     }
 
+-- the desk at the end of the history is at a point that has all receipts which are sound in it
+pub reached_now : (backend : BackendParts) (history : List Entry) (receipts : List (ℕ × Entry)) (desk : DeskView)
+    → StandsAt backend history desk → IsSound history receipts → IsReached backend receipts desk
+reached_now backend history receipts desk at sound = record { history = history; stands = at; stand = sound.0; rise = sound.1 }
+
 -- behind two events in one go it stands at the history with both entries
 pub stands_by_plan : (backend : BackendParts) (history : List Entry) (old new : DeskView) (taken : TakenPlan)
     → StandsAt backend history old → TakesPlan old taken new
@@ -58,6 +64,8 @@ adds_plan backend history old between new was now taken one two at takes is_one 
     let sheet : Entry = entry Snapshot (Sheet takes.plans.sheet) in
     let longer : StandsAt backend (history ++ sheet ∷ []) takes.plans.between = takes.plans.snapshot.log backend history at in
     let number : two ≡ length (history ++ sheet ∷ []) = is_two ∙ ap (λ (e : Entry). length (history ++ e ∷ [])) takes.first in
+    let still_first : between.keeper ≡ old.keeper = ap (λ (p : PassView Entry). p.keeper) first in
+    let still_second : new.keeper ≡ between.keeper = ap (λ (p : PassView Entry). p.keeper) second in
     record {
       sheet = takes.plans.sheet;
       plan = takes.plans.plan;
@@ -65,17 +73,20 @@ adds_plan backend history old between new was now taken one two at takes is_one 
       between = between;
       snapshot = record {
         number = one;
+        keeper = still_first;
         receipt = first ∙ ap (λ (e : Entry). with_receipt old (one, e)) takes.first;
         step = is_step backend history old.receipts was takes.plans.between one Snapshot (Sheet takes.plans.sheet) at sound takes.plans.snapshot is_one;
       };
       install = record {
         number = two;
+        keeper = still_second;
         receipt = second ∙ ap (λ (e : Entry). with_receipt between (two, e)) takes.second;
         step =
             is_step backend (history ++ sheet ∷ []) between.receipts takes.plans.between now two (Install takes.plans.plan) (Installed taken.score)
             longer (subst (λ (e : Entry). IsSound (history ++ e ∷ []) between.receipts) takes.first still) takes.plans.install number;
       };
       at_once = omega (arith, length-append history (taken.snapshot ∷ []));
+      keeper = still_second ∙ still_first;
     }
 
 abbrev fault_by : Bool → Bool → Option CloseFault
@@ -94,15 +105,15 @@ none_are_open tied passes is =
 
 -- what is left of a desk whose passes share out its history
 pub closes_of : (backend : BackendParts) (history : List Entry) (desk : DeskView) (passes : List (PassView Entry)) (rising : Bool)
-    → StandsAt backend history desk → KeepsHeadline desk → Shares history (receipts_of passes) → open_connections desk.shown ≡ 0 → rising ≡ true
+    → StandsAt backend history desk → HeadlineOfALog → Shares history (receipts_of passes) → open_connections desk.shown ≡ 0 → rising ≡ true
     → Closes backend passes (record { journal = desk.journal; rising = rising })
-closes_of backend history desk passes rising at keeps shares none rises = record {
+closes_of backend history desk passes rising at law shares none rises = record {
   history = history;
   end = at.reaches.state;
   steps = at.reaches.history;
   journal = at.end;
   receipts = shares;
   none_open = ap open_connections at.reaches.is ∙ none;
-  headline = λ early late plan reply is. keeps backend history at early late plan reply is;
+  headline = law backend history at.reaches.state at.reaches.history;
   rising = rises;
 }

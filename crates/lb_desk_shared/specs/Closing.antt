@@ -1,5 +1,5 @@
 -- What is true of a desk that was closed, and why one can't be closed yet. Our own words.
-use Rattle.std.specs.Prelude.{◌≡◌, ℕ, true, nat_lt, Option, Some, None, List, ◌∷◌, ◌++◌, take, if◌then◌else◌}
+use Rattle.std.specs.Prelude.{◌≡◌, ℕ, true, nat_lt, Option, Some, None, List, ◌∷◌, ◌++◌, if◌then◌else◌}
 use Rattle.dual_cert_plan.specs.Plans.{PlanParts}
 use Rattle.lb_desk_model.specs.declared.entry.Entry.{Entry}
 use Rattle.lb_desk_model.specs.declared.event.Event.TheVariants.{Install}
@@ -18,7 +18,7 @@ use Rattle.lb_desk_shared.specs.declared.closing.CloseFault.TheVariants.{PassesO
 use Rattle.lb_desk_shared.specs.declared.closing.Closing.{Closing}
 use Rattle.lb_desk_shared.specs.Desks.{TiedView}
 
--- the number of a fault in answers to operators
+-- the number of a fault in docs/FAULTS.md
 abbrev pub close_fault_number : CloseFault → ℕ
 close_fault_number PassesOut = 82
 close_fault_number SlotsOut = 83
@@ -40,9 +40,9 @@ pub record Closes (backend : BackendParts) (passes : List (PassView Entry)) (clo
   pub receipts : Shares history (receipts_of passes)
   -- no connection is open
   pub none_open : open_connections (seen end) ≡ 0
-  -- each install in the journal is stale exactly where the view had changed, or refused as the check refuses it, or best
+  -- each install of the history, also one that the journal has forgotten, is stale exactly where the view had changed, or refused
+  -- as the check refuses it, or best
   pub headline : (early late : List Entry) (plan : PlanParts) (reply : Reply)
-      → closing.journal.entries ≡ early ++ entry (Install plan) reply ∷ late
-      → Headline backend (take closing.journal.first history ++ early) plan reply late end
+      → history ≡ early ++ entry (Install plan) reply ∷ late → Headline backend early plan reply late end
   -- in each pass a later call has a greater number
   pub rising : closing.rising ≡ true
