@@ -3,7 +3,8 @@
 //!
 //! A whole request is an Expire, a Serve, an Open and a Close. Requests and their pins are made beforehand, except beside copies.
 //! Alone each of the four is timed by itself; threads that call at once ask as the balancer does, for the first two together.
-ghost use Rattle.std.specs.Prelude.{◌≡◌};
+ghost use Rattle.std.specs.Prelude.{◌≡◌, false};
+ghost use Rattle.lb_desk_shared.specs.Calls.{is_of_a_connection};
 
 use crate::farm::{backend, request};
 use crate::numbered::drawn;
@@ -209,9 +210,29 @@ fn tell_four<B: Naming, R: Runtime + Wait>(
     let Some((server, how)) = served(&reply) else {
         return Ok(None);
     };
-    tell_event(rt, desk, Event::Open(server), &mut times.open)?;
-    tell_event(rt, desk, Event::Close(server), &mut times.close)?;
+    connect(rt, desk, server, times)?;
     Ok(Some(how))
+}
+
+/// Opens a connection to the server and ends it, each by itself.
+fn connect<B: Naming, R: Runtime + Wait>(
+    rt: &R,
+    desk: &SharedDesk<RandomState, B>,
+    server: ServerId,
+    times: &mut FourTimes,
+) -> Result<()> {
+    let mut pass = desk.enter(rt)?;
+    let start = Instant::now(rt)?;
+    match desk.open(rt, &mut pass, server)? {
+        Opening::Opened(slot) => {
+            let opened = times.open.add(rt, start);
+            let start = Instant::now(rt);
+            desk.shut(rt, &mut pass, slot)?;
+            times.close.add(rt, start?)?;
+            opened
+        }
+        Opening::Full | Opening::NotServing => times.open.add(rt, start),
+    }
 }
 
 fn served(reply: &Reply) -> Option<(ServerId, ServedAs)> {
@@ -227,7 +248,9 @@ fn tell_event<B: Naming, R: Runtime + Wait>(
     desk: &SharedDesk<RandomState, B>,
     event: Event,
     times: &mut Times,
-) -> Result<Reply> {
+) -> Result<Reply>
+    requires { is_of_a_connection event ≡ false }
+{
     let mut pass = desk.enter(rt)?;
     let start = Instant::now(rt)?;
     let told = desk.tell(rt, &mut pass, event)?;
@@ -464,8 +487,9 @@ fn copy_pins<B: Naming, R: Wait + Clock>(
     desk: &SharedDesk<RandomState, B>,
     work: &mut Work,
 ) -> Result<()> {
+    let mut pass = desk.enter(rt)?;
     let start = Instant::now(rt)?;
-    let rows = desk.rows(rt, alloc)?;
+    let rows = desk.rows(rt, &mut pass, alloc)?;
     work.rows.add(rt, start)?;
     work.copied = rows.len();
     Ok(())
@@ -477,7 +501,8 @@ fn copy_journal<B: Naming, R: Wait + Clock>(
     desk: &SharedDesk<RandomState, B>,
     work: &mut Work,
 ) -> Result<()> {
+    let mut pass = desk.enter(rt)?;
     let start = Instant::now(rt)?;
-    let _entries = desk.entries(rt, alloc)?;
+    let _entries = desk.entries(rt, &mut pass, alloc)?;
     work.entries.add(rt, start)
 }

@@ -2,5 +2,6 @@ pub mod Answering
 pub mod Placing
 pub mod Printings
 pub mod Reading
+pub mod Showing
 pub mod Telling
 mod Trimming

@@ -17,7 +17,7 @@ use Rattle.lb_desk_model.specs.declared.reply.Reply.TheVariants.{Done}
 use Rattle.pin_set.specs.declared.table_pin.TablePin.{TablePin}
 use Rattle.lb_desk_ports.specs.declared.refused.Refused.{Refused}
 use Rattle.lb_desk_ports.specs.declared.refused.Refused.TheVariants.{Memory, Worn}
-use Rattle.lb_desk_steer.specs.Steering.{commanding_entries}
+use Rattle.lb_desk_steer.specs.Steering.{ArePinsAfter, IsJournalAfter, commanding_entries}
 use Rattle.lb_desk_evacuate.specs.Evacuations.{Evacuates}
 use Rattle.lb_desk_evacuate.specs.declared.evacuating.Evacuation.{Evacuation}
 use Rattle.lb_desk_evacuate.specs.declared.evacuating.Evacuation.TheVariants as evacuation
@@ -56,6 +56,7 @@ pub record Changes (named : NamedBackend) (place : ℕ) (change : Change) (old n
   pub reply : Result Reply Refused
   pub entries : new.entries ≡ old.entries ++ commanding_entries change reply
   pub planned_now : new.planned_now ≡ old.planned_now
+  pub backend : new.backend ≡ old.backend
   pub text : outcome.text ≡ change_text named change.server reply
   pub changed : outcome.changed ≡ (if is_made reply then place ∷ [] else [])
 
@@ -74,17 +75,22 @@ pub record Plans (tries : ℕ) (old new : DeskSeen) (text : List ℕ) : Type 0 w
 
 -- ---- what is shown
 
--- What is shown of a backend: of pins, or of entries of its journal, as its desk gave them. No event tells which these are
-abbrev pub IsShown : NamedBackend → Shown → List ℕ → Type 0
-IsShown named Show.Table text =
-    (pins : List TablePin) × (text ≡ table_text named.name named.servers.now named.table pins)
-IsShown named Show.Plan text = (entries : List Entry) × (text ≡ plan_text (last_installed entries))
-IsShown named Show.Journal text =
-    (first : ℕ) × (entries : List Entry) × (text ≡ journal_text named.name named.servers.now first entries)
+-- What is shown of a backend: its pins, or the end of its history, at a moment after all events that were made at this desk
+abbrev pub IsShown : NamedBackend → DeskSeen → Shown → List ℕ → Type 0
+IsShown named desk Show.Table text =
+    (pins : List TablePin) × ArePinsAfter desk.backend desk.entries pins
+    × (text ≡ table_text named.name named.servers.now named.table pins)
+IsShown named desk Show.Plan text =
+    (first : ℕ) × (entries : List Entry) × IsJournalAfter desk.backend desk.entries first entries
+    × (text ≡ plan_text (last_installed entries))
+IsShown named desk Show.Journal text =
+    (first : ℕ) × (entries : List Entry) × IsJournalAfter desk.backend desk.entries first entries
+    × (text ≡ journal_text named.name named.servers.now first entries)
 
--- it is shown, or there is not memory enough for a copy
-abbrev pub Shows : NamedBackend → Shown → List ℕ → Type 0
-Shows named what text = IsShown named what text ⊎ (text ≡ refused_line Memory)
+-- it is shown, or there is not memory enough for a copy; the desk stays as it is
+pub record Shows (named : NamedBackend) (what : Shown) (old new : DeskSeen) (text : List ℕ) : Type 0 where
+  pub shown : IsShown named old what text ⊎ (text ≡ refused_line Memory)
+  pub kept : new ≡ old
 
 -- ---- a command
 
@@ -103,8 +109,8 @@ CarriesOut seen console (Is.Change place change) desks used outcome =
 CarriesOut seen console (Is.Plan place) desks used outcome =
     AtDesk seen place desks used (λ old new. Plans console.config.tries old new outcome.text) × (outcome.changed ≡ [])
 CarriesOut seen console (Is.Show what place) desks used outcome =
-    (named : NamedBackend) × (slice_get console.names place ≡ Some named) × Shows named what outcome.text
-    × (outcome.changed ≡ []) × (used ≡ desks)
+    (named : NamedBackend) × (slice_get console.names place ≡ Some named)
+    × AtDesk seen place desks used (λ old new. Shows named what old new outcome.text) × (outcome.changed ≡ [])
 CarriesOut seen console Is.Stop desks used outcome = (outcome ≡ no_outcome) × (used ≡ desks)
 
 -- the command with its backend and its server, or its fault

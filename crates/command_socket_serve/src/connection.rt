@@ -32,7 +32,7 @@ pub fn serve_connection<R, S: Steer<R>, G: Gate<R>, T: Told, C: Read + Write>(
     stream: &mut C,
 ) -> Next
     requires { length desks.old ≡ length console.now.config.backends }
-    ensures serves { Serves (desk_seen S.entries S.planned_now) console.now (C.remaining stream.old) desks.old desks.new
+    ensures serves { Serves (desk_seen S.entries S.planned_now S.backend) console.now (C.remaining stream.old) desks.old desks.new
         (T.told told.old) (T.told told.new) result }
     ensures seats { length desks.new ≡ length desks.old }
 {

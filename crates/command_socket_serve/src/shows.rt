@@ -1,4 +1,5 @@
 ghost use Rattle.command_socket_serve.specs.Answers.{Shows};
+ghost use Rattle.command_socket_serve.specs.Desks.{desk_seen};
 ghost use Rattle.command_socket_serve.specs.Outcomes.{Says};
 ghost use Rattle.command_socket_words.specs.declared.command.Shown.TheVariants as Show;
 
@@ -15,12 +16,13 @@ pub(crate) fn show<R, S: Steer<R>, W: Write>(
     rt: &R,
     alloc: Global,
     named: &NamedBackend<'_>,
-    desk: &S,
+    desk: &mut S,
     what: Shown,
     out: &mut Counted<W>,
     sent: Printed,
 ) -> Printed
-    ensures { Says (Shows named.now what) out.old sent out.new result }
+    ensures { Says (Shows named.now what (desk_seen S.entries S.planned_now S.backend desk.old) (desk_seen S.entries S.planned_now S.backend desk.new))
+        out.old sent out.new result }
 {
     match what {
         Shown::Table => show_table(rt, alloc, named, desk, out, sent),
@@ -35,11 +37,12 @@ fn show_table<R, S: Steer<R>, W: Write>(
     rt: &R,
     alloc: Global,
     named: &NamedBackend<'_>,
-    desk: &S,
+    desk: &mut S,
     out: &mut Counted<W>,
     sent: Printed,
 ) -> Printed
-    ensures { Says (Shows named.now Show.Table) out.old sent out.new result }
+    ensures { Says (Shows named.now Show.Table (desk_seen S.entries S.planned_now S.backend desk.old) (desk_seen S.entries S.planned_now S.backend desk.new))
+        out.old sent out.new result }
 {
     match desk.rows(rt, alloc) {
         Ok(pins) => print(out, sent, &Answer::Table(named, &pins)),
@@ -52,12 +55,13 @@ fn show_table<R, S: Steer<R>, W: Write>(
 fn show_plan<R, S: Steer<R>, W: Write>(
     rt: &R,
     alloc: Global,
-    desk: &S,
+    desk: &mut S,
     named: &NamedBackend<'_>,
     out: &mut Counted<W>,
     sent: Printed,
 ) -> Printed
-    ensures { Says (Shows named.now Show.Plan) out.old sent out.new result }
+    ensures { Says (Shows named.now Show.Plan (desk_seen S.entries S.planned_now S.backend desk.old) (desk_seen S.entries S.planned_now S.backend desk.new))
+        out.old sent out.new result }
 {
     match desk.journal(rt, alloc) {
         Ok(journal) => print(out, sent, &Answer::Plan(last_installed(&journal.entries))),
@@ -71,11 +75,12 @@ fn show_journal<R, S: Steer<R>, W: Write>(
     rt: &R,
     alloc: Global,
     named: &NamedBackend<'_>,
-    desk: &S,
+    desk: &mut S,
     out: &mut Counted<W>,
     sent: Printed,
 ) -> Printed
-    ensures { Says (Shows named.now Show.Journal) out.old sent out.new result }
+    ensures { Says (Shows named.now Show.Journal (desk_seen S.entries S.planned_now S.backend desk.old) (desk_seen S.entries S.planned_now S.backend desk.new))
+        out.old sent out.new result }
 {
     match desk.journal(rt, alloc) {
         Ok(journal) => {

@@ -1,8 +1,8 @@
-ghost use Rattle.std.specs.Prelude.{◌≡◌, [], ◌∷◌, IfOk, OnErr};
+ghost use Rattle.std.specs.Prelude.{◌≡◌, false, [], ◌∷◌, IfOk, OnErr};
 ghost use Rattle.lb_desk_ports.specs.Calls.{after_call, entry};
 ghost use Rattle.lb_desk_seat.specs.Replies.{Answers};
 ghost use Rattle.lb_desk_seat.specs.Seats.{Adds, new_seat, with_refusals};
-ghost use Rattle.lb_desk_shared.specs.Calls.{AddsStep};
+ghost use Rattle.lb_desk_shared.specs.Calls.{AddsStep, is_of_a_connection};
 
 use lb_desk_model::{Entry, Event, Reply};
 use lb_desk_ports::Refused;
@@ -76,6 +76,7 @@ impl<'a, S: BuildHasher, B: Naming> Seat<'a, S, B> {
 
     /// Takes the event to the desk. A refusal isn't counted here.
     pub(crate) fn tell<R: Wait>(&mut self, rt: &R, event: Event) -> Result<Reply, Refused>
+        requires { is_of_a_connection event ≡ false }
         ensures adds { IfOk result (λ reply. Adds self.old self.new (entry event reply ∷ [])) }
         ensures step { IfOk result
             (λ reply. AddsStep (B.opening self.old.pass.keeper) self.old.pass event reply self.new.pass) }

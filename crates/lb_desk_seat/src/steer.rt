@@ -10,18 +10,22 @@ use std::hash::BuildHasher;
 use std::sync::Wait;
 
 impl<R: Wait, S: BuildHasher, B: Naming> Steer<R> for Seat<'_, S, B> {
+    ghost backend = { λ seat. B.opening seat.pass.keeper };
+
     fn command(&mut self, rt: &R, change: Change) -> Result<Reply, Refused> {
         let answer = self.tell(rt, Event::Command(change));
         self.count(&answer);
         answer
     }
 
-    fn rows(&self, rt: &R, alloc: Global) -> Result<Vec<TablePin>, AllocError> {
-        self.desk.rows(rt, alloc)
+    #[tactic(auto, using(crate::proofs::Copying::pins_after))]
+    fn rows(&mut self, rt: &R, alloc: Global) -> Result<Vec<TablePin>, AllocError> {
+        self.desk.rows(rt, &mut self.pass, alloc)
     }
 
-    fn journal(&self, rt: &R, alloc: Global) -> Result<JournalCopy, AllocError> {
-        let copy = self.desk.entries(rt, alloc)?;
+    #[tactic(auto, using(crate::proofs::Copying::journal_after))]
+    fn journal(&mut self, rt: &R, alloc: Global) -> Result<JournalCopy, AllocError> {
+        let copy = self.desk.entries(rt, &mut self.pass, alloc)?;
         Ok(JournalCopy {
             first: copy.first,
             entries: copy.entries,

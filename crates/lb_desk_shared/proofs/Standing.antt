@@ -19,7 +19,7 @@ use Rattle.lb_desk_shared.specs.declared.closing.CloseFault.{CloseFault}
 use Rattle.lb_desk_shared.specs.declared.closing.CloseFault.TheVariants.{PassesOut, SlotsOut}
 use Rattle.lb_desk_shared.specs.Calls.{AddsPlan, IsStepAt}
 use Rattle.lb_desk_shared.specs.Closing.{Closes, fault_of}
-use Rattle.lb_desk_shared.specs.Desks.{TiedView}
+use Rattle.lb_desk_shared.specs.Desks.{IsReached, TiedView}
 
 pub some_same : {A : Type 0} (x y : A) → Some x ≡ Some y → x ≡ y
 some_same x y is = ap (λ o. unwrap_or o x) is
@@ -41,6 +41,11 @@ is_step backend history receipts old new number event reply at sound takes is =
       step = next.step;
     }
 
+-- the desk at the end of the history is at a point that has all receipts which are sound in it
+pub reached_now : (backend : BackendParts) (history : List Entry) (receipts : List (ℕ × Entry)) (desk : DeskView)
+    → StandsAt backend history desk → IsSound history receipts → IsReached backend receipts desk
+reached_now backend history receipts desk at sound = record { history = history; stands = at; stand = sound.0; rise = sound.1 }
+
 -- behind two events in one go it stands at the history with both entries
 pub stands_by_plan : (backend : BackendParts) (history : List Entry) (old new : DeskView) (taken : TakenPlan)
     → StandsAt backend history old → TakesPlan old taken new
@@ -59,6 +64,8 @@ adds_plan backend history old between new was now taken one two at takes is_one 
     let sheet : Entry = entry Snapshot (Sheet takes.plans.sheet) in
     let longer : StandsAt backend (history ++ sheet ∷ []) takes.plans.between = takes.plans.snapshot.log backend history at in
     let number : two ≡ length (history ++ sheet ∷ []) = is_two ∙ ap (λ (e : Entry). length (history ++ e ∷ [])) takes.first in
+    let still_first : between.keeper ≡ old.keeper = ap (λ (p : PassView Entry). p.keeper) first in
+    let still_second : new.keeper ≡ between.keeper = ap (λ (p : PassView Entry). p.keeper) second in
     record {
       sheet = takes.plans.sheet;
       plan = takes.plans.plan;
@@ -66,17 +73,20 @@ adds_plan backend history old between new was now taken one two at takes is_one 
       between = between;
       snapshot = record {
         number = one;
+        keeper = still_first;
         receipt = first ∙ ap (λ (e : Entry). with_receipt old (one, e)) takes.first;
         step = is_step backend history old.receipts was takes.plans.between one Snapshot (Sheet takes.plans.sheet) at sound takes.plans.snapshot is_one;
       };
       install = record {
         number = two;
+        keeper = still_second;
         receipt = second ∙ ap (λ (e : Entry). with_receipt between (two, e)) takes.second;
         step =
             is_step backend (history ++ sheet ∷ []) between.receipts takes.plans.between now two (Install takes.plans.plan) (Installed taken.score)
             longer (subst (λ (e : Entry). IsSound (history ++ e ∷ []) between.receipts) takes.first still) takes.plans.install number;
       };
       at_once = omega (arith, length-append history (taken.snapshot ∷ []));
+      keeper = still_second ∙ still_first;
     }
 
 abbrev fault_by : Bool → Bool → Option CloseFault

@@ -19,7 +19,7 @@ use Rattle.lb_desk_shared.specs.declared.closing.CloseFault.TheVariants.{PassesO
 use Rattle.lb_desk_shared.specs.declared.closing.Closing.{Closing}
 use Rattle.lb_desk_shared.specs.Desks.{TiedView}
 
--- the number of a fault in answers to operators
+-- the number of a fault in docs/FAULTS.md
 abbrev pub close_fault_number : CloseFault → ℕ
 close_fault_number PassesOut = 82
 close_fault_number SlotsOut = 83

@@ -1,11 +1,12 @@
 -- The desk of a backend as many threads use it. Its history is the list of all entries so far. Our own words.
-use Rattle.std.specs.Prelude.{◌≡◌, ℕ, false, None, List, []}
+use Rattle.std.specs.Prelude.{◌≡◌, ℕ, true, false, None, List, []}
 use Rattle.lb_types.specs.declared.balance.Balance.TheVariants.{RoundRobin}
 use Rattle.lb_desk_model.specs.declared.entry.Entry.{Entry}
-use Rattle.pin_set.specs.declared.table_pin.TablePin.{TablePin}
 use Rattle.lb_desk_model.specs.Backends.{BackendParts}
+use Rattle.lb_desk_shared.specs.declared.journal_copy.JournalCopy.{JournalCopy}
 use Rattle.lb_desk_step.specs.Desk.{DeskView, StandsAt}
-use Rattle.lb_desk_tie.specs.Receipts.{KeeperView}
+use Rattle.lb_desk_tail.specs.Tail.{TailView}
+use Rattle.lb_desk_tie.specs.Receipts.{Each, KeeperView, StandsIn, rises}
 
 -- a backend with no server
 abbrev pub no_backend : BackendParts
@@ -16,16 +17,19 @@ pub record TiedView : Type 0 where
   pub desk : DeskView
   pub keeper : KeeperView Entry
 
--- some history of the backend, from its opening on, leads to this desk
-pub record IsReached (backend : BackendParts) (desk : DeskView) : Type 0 where
+-- some history of the backend, from its opening on, has all of the receipts and leads to this desk
+pub record IsReached (backend : BackendParts) (receipts : List (ℕ × Entry)) (desk : DeskView) : Type 0 where
   pub history : List Entry
   pub stands : StandsAt backend history desk
+  -- each receipt's entry stands at its number, and a later receipt has a greater one
+  pub stand : Each (StandsIn history) receipts
+  pub rise : rises receipts ≡ true
 
--- these are the pins of the backend behind some history of it
-abbrev pub HasPins : BackendParts → List TablePin → Type 0
-HasPins backend pins = (desk : DeskView) × IsReached backend desk × (pins ≡ desk.shown.pins)
+-- the copy has what the journal keeps
+pub record IsCopyOf (journal : TailView Entry) (copy : JournalCopy) : Type 0 where
+  pub first : copy.first ≡ journal.first
+  pub entries : copy.entries.items ≡ journal.entries
 
--- this is the journal of the backend behind some history of it
-abbrev pub HasJournal : BackendParts → ℕ → List Entry → Type 0
-HasJournal backend first entries =
-    (desk : DeskView) × IsReached backend desk × (first ≡ desk.journal.first) × (entries ≡ desk.journal.entries)
+-- this is true of the backend's desk at some point of its history which has all of the receipts
+abbrev pub AtAPoint : BackendParts → List (ℕ × Entry) → (DeskView → Type 0) → Type 0
+AtAPoint backend receipts Is = (desk : DeskView) × IsReached backend receipts desk × Is desk

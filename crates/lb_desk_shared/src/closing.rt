@@ -1,7 +1,7 @@
 ghost use Rattle.std.specs.Prelude.{◌≡◌};
 
 use crate::naming::Naming;
-use crate::shared::SharedDesk;
+use crate::tied::TiedDesk;
 use lb_desk_model::Entry;
 use lb_desk_tail::Tail;
 use lb_desk_tie::Pass;
@@ -28,7 +28,7 @@ pub enum CloseFault {
 impl CloseFault {
     ghost use Rattle.lb_desk_shared.specs.Closing.{close_fault_number};
 
-    /// The number of the fault in answers to operators.
+    /// The number of the fault, which docs/FAULTS.md lists.
     pub fn number(self) -> u16
         ensures { result ≡ close_fault_number self }
     {
@@ -39,10 +39,10 @@ impl CloseFault {
     }
 }
 
-/// A desk that can't be closed yet, and the passes that came back so far. The desk goes on as before.
+/// A desk that can't be closed yet, and the passes that came back so far. `SharedDesk::of_tied` lets the desk go on as before.
 #[derive(Drop)]
 pub struct StillOut<S: BuildHasher, B: Naming> {
     pub fault: CloseFault,
-    pub desk: SharedDesk<S, B>,
+    pub desk: TiedDesk<S, B>,
     pub passes: Vec<Pass<Entry, B>>,
 }

@@ -1,12 +1,13 @@
-ghost use Rattle.std.specs.Prelude.{◌≡◌, [], IfOk, IfErr, OnErr};
+ghost use Rattle.std.specs.Prelude.{◌≡◌, true, false, [], Some, vec_len, IfOk, IfErr, OnErr, IsErrOf};
 ghost use Rattle.std.specs.Sync.Mutex.{mutex_guard_value};
 ghost use Rattle.lb_desk_ports.specs.Calls.{entry};
 ghost use Rattle.lb_desk_ports.specs.Ports.{IfOpened, opening_reply, shut_reply};
-ghost use Rattle.lb_desk_shared.specs.Calls.{AddsPlan, AddsStep, IsStepAt};
-ghost use Rattle.lb_desk_shared.specs.Closing.{Closes};
-ghost use Rattle.lb_desk_shared.specs.Desks.{HasJournal, HasPins};
+ghost use Rattle.lb_desk_shared.specs.Calls.{AddsPlan, AddsStep, IsStepAt, is_of_a_connection};
+ghost use Rattle.lb_desk_shared.specs.Closing.{Closes, fault_of};
+ghost use Rattle.lb_desk_shared.specs.Desks.{AtAPoint, IsCopyOf};
 ghost use Rattle.lb_desk_model.specs.declared.event.Event.TheVariants as event;
-ghost use Rattle.lb_desk_step.specs.Desk.{StandsAt};
+ghost use Rattle.lb_desk_step.specs.Desk.{StandsAt, is_worn_for, may_take_memory};
+ghost use Rattle.lb_desk_step.specs.Planning.{is_worn_for_two};
 ghost use Rattle.lb_desk_tie.specs.Receipts.{AreOf, new_pass, with_receipt};
 
 use crate::closing::{CloseFault, Closing, StillOut};
@@ -68,18 +69,44 @@ impl<S: BuildHasher, B: Naming> SharedDesk<S, B> {
 
     /// A pass for one more caller, with no receipt. It is no event, and allocates nothing.
     ///
-    /// Refused as `Worn` once 2^64 - 1 passes were given out.
+    /// Refused only as `Worn`, which comes once 2^64 - 1 passes were given out.
     pub fn enter<R: Wait>(&self, rt: &R) -> Result<Pass<Entry, B>, Refused>
-        ensures { IfOk result (λ pass. pass ≡ new_pass self.now) }
+        ensures pass { IfOk result (λ pass. pass ≡ new_pass self.now) }
+        ensures refused { IfErr result (λ refused. refused ≡ Refused.Worn) }
     {
-        self.hold(rt)?.enter()
+        self.hold(rt).enter()
     }
 
     /// Takes the event as one step of the backend, and gives the pass its receipt. It copies no event, and is meant for the path of
-    /// a request. It costs what the event costs at `Desk::advance`, a lock, and a few atomic steps.
+    /// a request. It costs what the event costs at `Desk::advance`, a lock, and a few atomic steps. For the opening and the end of a
+    /// connection there are `open` and `shut`.
     ///
-    /// Refused, when out of memory and as `Worn` (81), exactly where `Desk::advance` is.
+    /// Refused as `Worn` (81) only at a point of the backend's history at which `Desk::advance` refuses the event so, and when out
+    /// of memory only if the event may need some. Then no step is taken.
     pub fn tell<R: Wait>(
+        &self,
+        rt: &R,
+        pass: &mut Pass<Entry, B>,
+        event: Event,
+    ) -> Result<Told, Refused>
+        requires pass { pass.old.keeper ≡ self.now }
+        requires event { is_of_a_connection event ≡ false }
+        ensures receipt { IfOk result
+            (λ told. pass.new ≡ with_receipt pass.old (told.number, entry event told.reply)) }
+        ensures step { IfOk result
+            (λ told. IsStepAt (B.opening self.now) pass.old.receipts told.number event told.reply) }
+        ensures worn { IsErrOf result Refused.Worn → AtAPoint
+            (B.opening self.now)
+            pass.old.receipts
+            (λ desk. is_worn_for desk event ≡ true) }
+        ensures memory { IsErrOf result Refused.Memory → may_take_memory event ≡ true }
+        ensures err { OnErr result (pass.new ≡ pass.old) }
+    {
+        self.take(rt, pass, event)
+    }
+
+    /// Takes the event as `tell` does, whichever it is.
+    fn take<R: Wait>(
         &self,
         rt: &R,
         pass: &mut Pass<Entry, B>,
@@ -90,9 +117,14 @@ impl<S: BuildHasher, B: Naming> SharedDesk<S, B> {
             (λ told. pass.new ≡ with_receipt pass.old (told.number, entry event told.reply)) }
         ensures step { IfOk result
             (λ told. IsStepAt (B.opening self.now) pass.old.receipts told.number event told.reply) }
+        ensures worn { IsErrOf result Refused.Worn → AtAPoint
+            (B.opening self.now)
+            pass.old.receipts
+            (λ desk. is_worn_for desk event ≡ true) }
+        ensures memory { IsErrOf result Refused.Memory → may_take_memory event ≡ true }
         ensures err { OnErr result (pass.new ≡ pass.old) }
     {
-        let mut held = self.hold(rt)?;
+        let mut held = self.hold(rt);
         let (told, forgotten) = held.tell(pass, event)?;
         drop(held);
         drop(forgotten);
@@ -100,18 +132,23 @@ impl<S: BuildHasher, B: Naming> SharedDesk<S, B> {
     }
 
     /// Takes the event as `tell` does, and hands out its receipt. It costs a copy of the event on top, which is made before the desk
-    /// is held. It is also refused if there is no memory for that copy.
+    /// is held. It is refused as `tell` is, and when out of memory for that copy.
     pub fn call<R: Wait>(
         &self,
         rt: &R,
         pass: &mut Pass<Entry, B>,
         event: Event,
     ) -> Result<Receipt, Refused>
-        requires { pass.old.keeper ≡ self.now }
+        requires pass { pass.old.keeper ≡ self.now }
+        requires event { is_of_a_connection event ≡ false }
         ensures receipt { IfOk result (λ receipt. pass.new ≡ with_receipt pass.old receipt) }
         ensures event { IfOk result (λ receipt. receipt.1.event ≡ event) }
         ensures step { IfOk result
             (λ receipt. IsStepAt (B.opening self.now) pass.old.receipts receipt.0 event receipt.1.reply) }
+        ensures worn { IsErrOf result Refused.Worn → AtAPoint
+            (B.opening self.now)
+            pass.old.receipts
+            (λ desk. is_worn_for desk event ≡ true) }
         ensures err { OnErr result (pass.new ≡ pass.old) }
     {
         let copy = event.clone()?;
@@ -121,7 +158,7 @@ impl<S: BuildHasher, B: Naming> SharedDesk<S, B> {
 
     /// Opens a connection to the server, at most as many as its `maxconn` says.
     ///
-    /// Refused as `Worn` (81) exactly where `Desk::advance` is; it never runs out of memory.
+    /// Refused only as `Worn` (81), at a point of the backend's history at which `Desk::advance` refuses it so; it needs no memory.
     pub fn open<R: Wait>(
         &self,
         rt: &R,
@@ -131,11 +168,16 @@ impl<S: BuildHasher, B: Naming> SharedDesk<S, B> {
         requires { pass.old.keeper ≡ self.now }
         ensures step { IfOk result
             (λ opening. AddsStep (B.opening self.now) pass.old (event.Open server) (opening_reply opening) pass.new) }
+        ensures refused { IfErr result (λ refused. refused ≡ Refused.Worn) }
+        ensures worn { OnErr result (AtAPoint
+            (B.opening self.now)
+            pass.old.receipts
+            (λ desk. is_worn_for desk (event.Open server) ≡ true)) }
         ensures err { OnErr result (pass.new ≡ pass.old) }
         ensures desk { IfOpened result (λ slot. slot.desk ≡ self.now) }
         ensures server { IfOpened result (λ slot. slot.server ≡ server) }
     {
-        let told = self.tell(rt, pass, Event::Open(server))?;
+        let told = self.take(rt, pass, Event::Open(server))?;
         let Some(opening) = opening_of(&told.reply, self.number, server) else {
             unreachable!();
         };
@@ -144,7 +186,8 @@ impl<S: BuildHasher, B: Naming> SharedDesk<S, B> {
 
     /// Ends the connection. The slot is spent, whatever the answer.
     ///
-    /// An open connection is always ended, since its event needs no memory and has its room at an exhausted desk.
+    /// Refused only as `Worn` (81), at a point of the backend's history at which no connection is open at the server: the end of an
+    /// open one needs no memory, and an exhausted desk has room for its event.
     pub fn shut<R: Wait>(
         &self,
         rt: &R,
@@ -155,10 +198,15 @@ impl<S: BuildHasher, B: Naming> SharedDesk<S, B> {
         requires slot { slot.desk ≡ self.now }
         ensures step { IfOk result
             (λ shut. AddsStep (B.opening self.now) pass.old (event.Close slot.server) (shut_reply shut) pass.new) }
+        ensures refused { IfErr result (λ refused. refused ≡ Refused.Worn) }
+        ensures worn { OnErr result (AtAPoint
+            (B.opening self.now)
+            pass.old.receipts
+            (λ desk. is_worn_for desk (event.Close slot.server) ≡ true)) }
         ensures err { OnErr result (pass.new ≡ pass.old) }
     {
         let Slot { desk: _, server } = slot;
-        let told = self.tell(rt, pass, Event::Close(server))?;
+        let told = self.take(rt, pass, Event::Close(server))?;
         let Some(shut) = shut_of(&told.reply) else {
             unreachable!();
         };
@@ -168,84 +216,124 @@ impl<S: BuildHasher, B: Naming> SharedDesk<S, B> {
     /// Takes a sheet, makes a plan for it and installs that, all in one hold, so that no plan can go stale. The others wait for as
     /// long as a whole planning takes.
     ///
-    /// Refused when out of memory, and as `Worn` (81) where the second of the two events would be; then nothing has changed.
+    /// Refused when out of memory, and as `Worn` (81) only at a point of the backend's history at which the second of the two events
+    /// would be. Then no step is taken.
     pub fn plan_now<R: Wait>(&self, rt: &R, pass: &mut Pass<Entry, B>) -> Result<Score, Refused>
         requires { pass.old.keeper ≡ self.now }
         ensures plan { IfOk result (λ score. AddsPlan (B.opening self.now) pass.old score pass.new) }
+        ensures worn { IsErrOf result Refused.Worn → AtAPoint
+            (B.opening self.now)
+            pass.old.receipts
+            (λ desk. is_worn_for_two desk ≡ true) }
         ensures err { OnErr result (pass.new ≡ pass.old) }
     {
-        let mut held = self.hold(rt)?;
+        let mut held = self.hold(rt);
         let taken = held.plan_now(pass)?;
         drop(held);
         Ok(taken.into_score())
     }
 
-    /// Copies of the pins at one moment, in order of last use, the one that wasn't used for longest first. It is no event.
+    /// Copies of the pins at one moment, in order of last use, the one that wasn't used for longest first. All receipts of the pass
+    /// are of events before that moment. It is no event, and the pass gets no receipt.
     ///
     /// The others wait for one pass through the pins as they lie in memory, with a copy of each key. They don't wait while the pins
     /// are put into order of last use, which takes longer and copies each key once more. For a moment there is memory for two lists
     /// of the pins. The only error is out of memory.
-    pub fn rows<R: Wait>(&self, rt: &R, alloc: Global) -> Result<Vec<TablePin>, AllocError>
-        ensures { IfOk result (λ rows. HasPins (B.opening self.now) rows.items) }
+    pub fn rows<R: Wait>(
+        &self,
+        rt: &R,
+        pass: &mut Pass<Entry, B>,
+        alloc: Global,
+    ) -> Result<Vec<TablePin>, AllocError>
+        requires { pass.old.keeper ≡ self.now }
+        ensures pins { IfOk result
+            (λ rows. AtAPoint
+            (B.opening self.now)
+            pass.old.receipts
+            (λ desk. rows.items ≡ desk.shown.pins)) }
+        ensures pass { pass.new ≡ pass.old }
     {
-        let held = self.hold(rt)?;
+        let mut held = self.hold(rt);
+        held.confirm(pass);
         let copy = held.copy_table(alloc)?;
         drop(held);
         copy.rows(alloc)
     }
 
-    /// A copy of the journal at one moment. It is no event.
+    /// A copy of the journal at one moment. All receipts of the pass are of events before that moment. It is no event, and the pass
+    /// gets no receipt.
     ///
     /// The others wait while each entry is copied. The only error is out of memory.
-    pub fn entries<R: Wait>(&self, rt: &R, alloc: Global) -> Result<JournalCopy, AllocError>
-        ensures { IfOk result (λ copy. HasJournal (B.opening self.now) copy.first copy.entries.items) }
+    pub fn entries<R: Wait>(
+        &self,
+        rt: &R,
+        pass: &mut Pass<Entry, B>,
+        alloc: Global,
+    ) -> Result<JournalCopy, AllocError>
+        requires { pass.old.keeper ≡ self.now }
+        ensures journal { IfOk result
+            (λ copy. AtAPoint
+            (B.opening self.now)
+            pass.old.receipts
+            (λ desk. IsCopyOf desk.journal copy)) }
+        ensures pass { pass.new ≡ pass.old }
     {
-        self.hold(rt)?.entries(alloc)
+        let mut held = self.hold(rt);
+        held.confirm(pass);
+        held.entries(alloc)
     }
 
-    /// The desk under the lock, once it is free. That it has this number no type can say, so it is looked at; it always has.
-    fn hold<R: Wait>(&self, rt: &R) -> Result<MutexGuard<'_, TiedDesk<S, B>>, AllocError>
-        ensures { IfOk result (λ held. (mutex_guard_value held).keeper.number ≡ self.now) }
+    /// The desk under the lock, once it is free. No type can say that it has this number, so it is looked at. It always has: a desk of
+    /// another number would never come free.
+    fn hold<R: Wait>(&self, rt: &R) -> MutexGuard<'_, TiedDesk<S, B>>
+        ensures { (mutex_guard_value result).keeper.number ≡ self.now }
     {
-        let held = self.lock.lock(rt);
-        if held.number() != self.number {
-            return Err(AllocError);
+        for _ in rt.forever() {
+            let held = self.lock.lock(rt);
+            if held.number() == self.number {
+                return held;
+            }
         }
-        Ok(held)
+        unreachable!()
     }
 }
 
 impl<S: BuildHasher + Drop, B: Naming> SharedDesk<S, B> {
+    /// The desk goes under its lock again.
+    pub fn of_tied(desk: TiedDesk<S, B>) -> Self
+        ensures { result ≡ desk.keeper.number }
+    {
+        SharedDesk {
+            number: desk.number(),
+            lock: Mutex::new(desk),
+        }
+    }
+
     /// Closes the desk with all passes that it gave out. It costs a few machine instructions a pass, and allocates nothing.
     ///
-    /// Refused with 82 if fewer passes come back than were given out, and else with 83 if a connection is open. Then the desk and the
-    /// passes are handed back as they were.
+    /// Refused with 82 exactly if fewer passes come back than were given out, and with 83 exactly if they all do and a connection is
+    /// open. Then the passes are handed back as they were, with the desk, which has this number. No type says that, so no clause does.
     pub fn close(self, passes: Vec<Pass<Entry, B>>) -> Result<Closing, StillOut<S, B>>
         requires { AreOf self passes.items }
         ensures closes { IfOk result (λ closing. Closes (B.opening self) passes.items closing) }
-        ensures still { IfErr result (λ out. (out.desk ≡ self) × (out.passes ≡ passes)) }
+        ensures fault { IfErr result
+            (λ out. out.desk.keeper.number ≡ self
+            → fault_of out.desk (vec_len passes) ≡ Some out.fault) }
+        ensures passes { IfErr result (λ out. out.passes ≡ passes) }
     {
         let SharedDesk { number, lock } = self;
-        let tied = lock.into_inner();
-        if tied.number() != number {
-            // No run comes here, see `hold`.
-            return Err(StillOut {
-                fault: CloseFault::PassesOut,
-                desk: SharedDesk {
-                    number,
-                    lock: Mutex::new(tied),
-                },
-                passes,
-            });
-        }
-        match tied.fault(passes.len()) {
-            None => Ok(tied.close(passes)),
+        let desk = lock.into_inner();
+        // No run comes here with a desk of another number, see `hold`.
+        let fault = if desk.number() == number {
+            desk.fault(passes.len())
+        } else {
+            Some(CloseFault::PassesOut)
+        };
+        match fault {
+            None => Ok(desk.close(passes)),
             Some(fault) => Err(StillOut {
                 fault,
-                desk: SharedDesk {
-                    number,
-                    lock: Mutex::new(tied),
-                },
+                desk,
                 passes,
             }),
         }

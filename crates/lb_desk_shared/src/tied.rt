@@ -2,7 +2,7 @@ ghost use Rattle.std.specs.Prelude.{◌≡◌, ◌+◌, ◌<◌, ◌^◌, ◌≤
 ghost use Rattle.lb_desk_ports.specs.Calls.{entry};
 ghost use Rattle.lb_desk_shared.specs.Calls.{AddsPlan, IsStepAt};
 ghost use Rattle.lb_desk_shared.specs.Closing.{Closes, fault_of};
-ghost use Rattle.lb_desk_shared.specs.Desks.{HasJournal, HasPins};
+ghost use Rattle.lb_desk_shared.specs.Desks.{AtAPoint, IsReached};
 ghost use Rattle.lb_desk_step.specs.Desk.{StandsAt, Takes, is_worn_for, may_take_memory};
 ghost use Rattle.lb_desk_step.specs.Planning.{TakesPlan, is_worn_for_two};
 ghost use Rattle.lb_desk_tie.specs.Receipts.{AreOf, new_keeper, new_pass, with_entry, with_pass, with_receipt};
@@ -20,9 +20,10 @@ use std::alloc::{AllocError, Global};
 use std::hash::BuildHasher;
 use std::marker::Model;
 
-/// What lies under the lock: a desk, and beside it the keeper of its receipts, whose history is that of the desk.
+/// What lies under the lock of a `SharedDesk`: a desk, and the keeper of its receipts, whose history is that of the desk. Only
+/// `SharedDesk::close` hands one out.
 #[derive(Drop)]
-pub(crate) struct TiedDesk<S: BuildHasher, B: Naming> {
+pub struct TiedDesk<S: BuildHasher, B: Naming> {
     desk: Desk<S>,
     keeper: Keeper<Entry, B>,
 }
@@ -53,7 +54,7 @@ impl<S: BuildHasher, B: Naming> TiedDesk<S, B> {
     }
 
     /// Which desk it is.
-    pub(crate) fn number(&self) -> u64
+    pub fn number(&self) -> u64
         ensures { result ≡ self.now.keeper.number }
     {
         self.keeper.number()
@@ -65,6 +66,7 @@ impl<S: BuildHasher, B: Naming> TiedDesk<S, B> {
         ensures keeper { IfOk result (λ pass. self.new.keeper ≡ with_pass self.old.keeper) }
         ensures desk { self.new.desk ≡ self.old.desk }
         ensures worn { IsErr result ↔ (2 ^ 64 ≤ self.old.keeper.passes + 1) }
+        ensures refused { IfErr result (λ refused. refused ≡ Refused.Worn) }
         ensures err { OnErr result (self.new ≡ self.old) }
     {
         if self.keeper.out() == u64::MAX {
@@ -100,9 +102,19 @@ impl<S: BuildHasher, B: Naming> TiedDesk<S, B> {
         ensures worn { IsErrOf result Refused.Worn ↔ (is_worn_for self.old.desk event ≡ true) }
         ensures memory { IsErrOf result Refused.Memory → may_take_memory event ≡ true }
         ensures err { OnErr result ((self.new ≡ self.old) × (pass.new ≡ pass.old)) }
+        ensures worn_at { IsErrOf result Refused.Worn → AtAPoint
+            (B.opening self.old.keeper.number)
+            pass.old.receipts
+            (λ desk. is_worn_for desk event ≡ true) }
     {
         self.desk.stands_at_a_log();
-        let Taken { reply, forgotten } = self.desk.advance(event)?;
+        let Taken { reply, forgotten } = match self.desk.advance(event) {
+            Ok(taken) => taken,
+            Err(refused) => {
+                self.keeper.confirm(pass);
+                return Err(refused);
+            }
+        };
         let Some(newest) = self.desk.journal().last() else {
             unreachable!();
         };
@@ -130,18 +142,36 @@ impl<S: BuildHasher, B: Naming> TiedDesk<S, B> {
         // Where it is refused.
         ensures worn { IsErrOf result Refused.Worn ↔ (is_worn_for_two self.old.desk ≡ true) }
         ensures err { OnErr result ((self.new ≡ self.old) × (pass.new ≡ pass.old)) }
+        ensures worn_at { IsErrOf result Refused.Worn → AtAPoint
+            (B.opening self.old.keeper.number)
+            pass.old.receipts
+            (λ desk. is_worn_for_two desk ≡ true) }
     {
         self.desk.stands_at_a_log();
-        let taken = self.desk.advance_by_plan()?;
+        let taken = match self.desk.advance_by_plan() {
+            Ok(taken) => taken,
+            Err(refused) => {
+                self.keeper.confirm(pass);
+                return Err(refused);
+            }
+        };
         self.keeper.record(pass, &taken.snapshot);
         self.keeper.record(pass, &taken.install);
         Ok(taken)
     }
 
+    /// Changes nothing: what it says is that all receipts of the pass are in the history that the desk stands at the end of.
+    pub(crate) fn confirm(&mut self, pass: &mut Pass<Entry, B>)
+        requires { pass.old.keeper ≡ self.old.keeper.number }
+        ensures same { (self.new ≡ self.old) × (pass.new ≡ pass.old) }
+        ensures reached { IsReached (B.opening self.old.keeper.number) pass.old.receipts self.old.desk }
+    {
+        self.keeper.confirm(pass);
+    }
+
     /// A copy of the pins, which gives them out in order of last use.
     pub(crate) fn copy_table(&self, alloc: Global) -> Result<TableCopy, AllocError>
-        ensures exact { IfOk result (λ copy. copy ≡ self.now.desk.shown.pins) }
-        ensures reached { IfOk result (λ copy. HasPins (B.opening self.now.keeper.number) copy) }
+        ensures { IfOk result (λ copy. copy ≡ self.now.desk.shown.pins) }
     {
         self.desk.copy_table(alloc)
     }
@@ -150,11 +180,6 @@ impl<S: BuildHasher, B: Naming> TiedDesk<S, B> {
     pub(crate) fn entries(&self, alloc: Global) -> Result<JournalCopy, AllocError>
         ensures first { IfOk result (λ copy. copy.first ≡ self.now.desk.journal.first) }
         ensures entries { IfOk result (λ copy. copy.entries.items ≡ self.now.desk.journal.entries) }
-        ensures reached { IfOk result
-            (λ copy. HasJournal
-            (B.opening self.now.keeper.number)
-            copy.first
-            copy.entries.items) }
     {
         JournalCopy::of(alloc, self.desk.journal())
     }

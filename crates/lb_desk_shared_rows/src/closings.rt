@@ -67,13 +67,14 @@ fn close_thrice<B: Naming, R: Wait + Abort>(
         panic!(rt; "closed with a pass out");
     };
     assert_eq!(rt; out.fault, CloseFault::PassesOut, "a pass is out");
-    let desk = out.desk;
+    let desk = SharedDesk::of_tied(out.desk);
+    assert_eq!(rt; pass.keeper(), desk.number(), "a pass of this desk");
     assert_eq!(rt;
-        desk.entries(rt, alloc)?.entries.len(),
+        desk.entries(rt, &mut pass, alloc)?.entries.len(),
         6,
         "nothing is lost"
     );
-    assert_eq!(rt; desk.rows(rt, alloc)?.len(), 1, "one pin");
+    assert_eq!(rt; desk.rows(rt, &mut pass, alloc)?.len(), 1, "one pin");
     let mut passes = Vec::with_capacity(alloc, 1)?;
     let Opening::Opened(slot) = desk.open(rt, &mut pass, ServerId::new(1))? else {
         panic!(rt; "not opened");
@@ -83,7 +84,7 @@ fn close_thrice<B: Naming, R: Wait + Abort>(
         panic!(rt; "closed with a connection open");
     };
     assert_eq!(rt; out.fault, CloseFault::SlotsOut, "a connection is open");
-    let desk = out.desk;
+    let desk = SharedDesk::of_tied(out.desk);
     let mut passes = out.passes;
     let Some(mut pass) = passes.pop() else {
         panic!(rt; "no pass comes back");

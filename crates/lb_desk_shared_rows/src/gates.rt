@@ -152,7 +152,8 @@ fn meet<N: Naming + Send + Sync, R: Threads + Wait + Clock + Abort + Sync>(
     assert!(rt; numbered?, "{row:?}");
     // Only the last try plans while all others wait.
     assert_eq!(rt; planned?, (Evacuation::Done(row.score), 1), "{row:?}");
-    are(rt, &desk.entries(rt, alloc)?.entries, row.kinds);
+    let mut pass = desk.enter(rt)?;
+    are(rt, &desk.entries(rt, &mut pass, alloc)?.entries, row.kinds);
     Ok(())
 }
 

@@ -1,9 +1,14 @@
--- What an operator's call makes: an event of the machine in `lb_desk_model`, with its reply. Our own words.
-use Rattle.std.specs.Prelude.{List, [], ◌∷◌, Result, Ok, Err}
+-- What an operator's call makes: an event of the machine in `lb_desk_model`, with its reply. And of which moment in a backend's
+-- history a copy is. Our own words.
+use Rattle.std.specs.Prelude.{◌≡◌, ℕ, ◌+◌, List, [], ◌∷◌, ◌++◌, length, drop, Result, Ok, Err}
+use Rattle.pin_set.specs.declared.table_pin.TablePin.{TablePin}
 use Rattle.server_state.specs.declared.change.Change.{Change}
 use Rattle.lb_desk_model.specs.declared.entry.Entry.{Entry}
 use Rattle.lb_desk_model.specs.declared.event.Event.TheVariants.{Command}
 use Rattle.lb_desk_model.specs.declared.reply.Reply.{Reply}
+use Rattle.lb_desk_model.specs.Backends.{BackendParts}
+use Rattle.lb_desk_model.specs.Histories.{History}
+use Rattle.lb_desk_model.specs.States.{State, opening}
 use Rattle.lb_desk_ports.specs.declared.refused.Refused.{Refused}
 use Rattle.lb_desk_ports.specs.Calls.{entry}
 
@@ -11,3 +16,26 @@ use Rattle.lb_desk_ports.specs.Calls.{entry}
 abbrev pub commanding_entries : Change → Result Reply Refused → List Entry
 commanding_entries change (Ok reply) = entry (Command change) reply ∷ []
 commanding_entries change (Err refused) = []
+
+-- ---- copies
+
+-- these entries are in the history, in their order, those of others between them
+abbrev pub AreIn : List Entry → List Entry → Type 0
+AreIn [] history = Unit {0}
+AreIn (first ∷ rest) history = (before : List Entry) × (after : List Entry) × (history ≡ before ++ first ∷ after) × AreIn rest after
+
+-- a moment in the history of a backend, from its opening on, after all of these entries
+pub record Moment (backend : BackendParts) (made : List Entry) : Type 0 where
+  pub history : List Entry
+  pub state : State
+  pub steps : History (opening backend) history state
+  pub has : AreIn made history
+
+-- these are the pins at such a moment
+abbrev pub ArePinsAfter : BackendParts → List Entry → List TablePin → Type 0
+ArePinsAfter backend made pins = (at : Moment backend made) × (pins ≡ at.state.pins)
+
+-- these entries are the end of the history at such a moment, and so many are before them
+abbrev pub IsJournalAfter : BackendParts → List Entry → ℕ → List Entry → Type 0
+IsJournalAfter backend made first entries =
+    (at : Moment backend made) × (entries ≡ drop first at.history) × (first + length entries ≡ length at.history)

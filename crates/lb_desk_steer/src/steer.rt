@@ -1,6 +1,7 @@
-ghost use Rattle.std.specs.Prelude.{◌≡◌, ◌++◌};
+ghost use Rattle.std.specs.Prelude.{◌≡◌, ◌++◌, IfOk};
+ghost use Rattle.lb_desk_model.specs.Backends.{BackendParts};
 ghost use Rattle.lb_desk_ports.specs.Calls.{after_call};
-ghost use Rattle.lb_desk_steer.specs.Steering.{commanding_entries};
+ghost use Rattle.lb_desk_steer.specs.Steering.{ArePinsAfter, IsJournalAfter, commanding_entries};
 
 use crate::JournalCopy;
 use lb_desk_model::Reply;
@@ -12,23 +13,38 @@ use std::alloc::{AllocError, Global};
 /// A backend, as a caller that carries out an operator's commands sees it. A call that is refused when out of memory or for wear
 /// makes no event.
 pub trait Steer<R>: Mover<R> {
+    /// The backend, as it opened.
+    ghost backend: { Self → BackendParts };
+
     /// Makes the change to a server, and answers `Reply::Done`. Or it changes nothing and answers `Reply::Refused`: 10, there is no
     /// such server; 12, its health is set and it isn't checked; 11, the number is out of range.
     fn command(&mut self, rt: &R, change: Change) -> Result<Reply, Refused>
         ensures entries { Self.entries self.new ≡ Self.entries self.old ++ commanding_entries change result }
         ensures refusals { Self.refusals self.new ≡ after_call result (Self.refusals self.old) }
-        ensures planned_now { Self.planned_now self.new ≡ Self.planned_now self.old };
+        ensures planned_now { Self.planned_now self.new ≡ Self.planned_now self.old }
+        ensures backend { backend self.new ≡ backend self.old };
 
-    /// Copies of the table's pins as they stand now, in order of last use, the one that wasn't used for longest first; none where
-    /// the backend has no table. It is no event, and no use of any pin.
+    /// Copies of the table's pins as they are now, after all events of this `Steer`, in order of last use, the one that wasn't used for
+    /// longest first; none if the backend has no table. It is no event, and no use of any pin.
     ///
     /// It costs one pass through the pins while no event is taken, one walk over them after that, and a copy of each key in either.
     /// Refused only when out of memory.
-    fn rows(&self, rt: &R, alloc: Global) -> Result<Vec<TablePin>, AllocError>;
+    fn rows(&mut self, rt: &R, alloc: Global) -> Result<Vec<TablePin>, AllocError>
+        ensures pins { IfOk result (λ pins. ArePinsAfter (backend self.old) (Self.entries self.old) pins.items) }
+        ensures entries { Self.entries self.new ≡ Self.entries self.old }
+        ensures refusals { Self.refusals self.new ≡ Self.refusals self.old }
+        ensures planned_now { Self.planned_now self.new ≡ Self.planned_now self.old }
+        ensures backend { backend self.new ≡ backend self.old };
 
-    /// A copy of what the backend's journal keeps now. It is no event.
+    /// A copy of what the backend's journal keeps now, after all events of this `Steer`. It is no event.
     ///
     /// It costs one walk over the entries while no event is taken, and a copy of each key and of each list of rules. Refused only
     /// when out of memory.
-    fn journal(&self, rt: &R, alloc: Global) -> Result<JournalCopy, AllocError>;
+    fn journal(&mut self, rt: &R, alloc: Global) -> Result<JournalCopy, AllocError>
+        ensures journal { IfOk result
+            (λ copy. IsJournalAfter (backend self.old) (Self.entries self.old) copy.first copy.entries.items) }
+        ensures entries { Self.entries self.new ≡ Self.entries self.old }
+        ensures refusals { Self.refusals self.new ≡ Self.refusals self.old }
+        ensures planned_now { Self.planned_now self.new ≡ Self.planned_now self.old }
+        ensures backend { backend self.new ≡ backend self.old };
 }

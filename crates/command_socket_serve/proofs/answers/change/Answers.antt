@@ -12,6 +12,7 @@ returns-in-Err g c = record {
     reply = Err c.in-Err.refused;
     entries = c.in-Err.ensures.entries;
     planned_now = c.in-Err.ensures.planned_now;
+    backend = c.in-Err.ensures.backend;
     text = refl;
     changed = refl;
   };
@@ -28,6 +29,7 @@ returns-then-is_done g c =
         reply = Ok c.in-Ok.reply;
         entries = c.in-Ok.ensures.entries;
         planned_now = c.in-Ok.ensures.planned_now;
+        backend = c.in-Ok.ensures.backend;
         text = rw done refl;
         changed = rw done refl;
       };
@@ -45,6 +47,7 @@ returns g c =
         reply = Ok c.in-Ok.reply;
         entries = c.in-Ok.ensures.entries;
         planned_now = c.in-Ok.ensures.planned_now;
+        backend = c.in-Ok.ensures.backend;
         text = refl;
         changed = rw other refl;
       };

@@ -6,5 +6,5 @@ use Rattle.lb_desk_shared.proofs.shared.SharedDesk.shut.Goals as goal
 pub returns-clause-step : goal.returns-clause-step
 returns-clause-step g c =
     let told = c.in_ok-told.told in
-    adds_step (g.B.Naming.opening c.args.self.now) c.args.pass.now c.tell.new.pass told.number (Close c.args.slot.server) told.reply (shut_reply c.in-Some.shut)
+    adds_step (g.B.Naming.opening c.args.self.now) c.args.pass.now c.take.new.pass told.number (Close c.args.slot.server) told.reply (shut_reply c.in-Some.shut)
     c.in_ok-told.ensures.receipt c.in_ok-told.ensures.step c.in-Some.ensures.reply

@@ -10,8 +10,8 @@ use Rattle.lb_desk_shared.proofs.tied.TiedDesk.tell.Goals as goal
 pub invariant_of-self-2 : goal.invariant_of-self-2
 invariant_of-self-2 g c =
     let p = c.self.inside in
-    let takes = c.in_ok-reply.ensures.takes in
-    let e = entry c.args.event c.in_ok-reply.field-0.reply in
+    let takes = c.in-Ok.ensures.takes in
+    let e = entry c.args.event c.in-Ok.taken.reply in
     let journal = p.desk.journal in
     let newest : c.in-Some.newest.now ≡ e =
     some_same c.in-Some.newest.now e (c.in-Some.ensures.newest (drop (leaving journal) journal.entries) e (ap (λ (t : TailView Entry). t.entries) (c.journal.ensures ∙ takes.journal))) in
@@ -23,5 +23,5 @@ pub returns-clause-step : goal.returns-clause-step
 returns-clause-step g c =
     let p = c.self.inside in
     rw (← c.self.view_is) (is_step (g.B.Naming.opening p.keeper.number) p.keeper.history c.args.pass.now.receipts p.desk c.advance.new.self
-    c.record-number.result c.args.event c.in_ok-reply.field-0.reply
-    c.self.invariant c.record-number.ensures.sound c.in_ok-reply.ensures.takes c.record-number.ensures.number)
+    c.record-number.result c.args.event c.in-Ok.taken.reply
+    c.self.invariant c.record-number.ensures.sound c.in-Ok.ensures.takes c.record-number.ensures.number)

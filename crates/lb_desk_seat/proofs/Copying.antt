@@ -1,0 +1,62 @@
+-- Copies are of a moment after all events of the pass.
+use Rattle.std.proofs.Common.{◌≡◌, ℕ, zero, suc, ◌+◌, ◌≤◌, true, nat_le, List, [], ◌∷◌, ◌++◌, length, drop, Some, sym, ap, ◌∙◌, arith}
+use Rattle.std.specs.Prelude.{slice_get}
+use Rattle.std.proofs.lemmas.Bool.{and_parts}
+use Rattle.std.proofs.lemmas.Bool.Decides.{nat_tests}
+use Rattle.pin_set.specs.declared.table_pin.TablePin.{TablePin}
+use Rattle.lb_desk_model.specs.declared.entry.Entry.{Entry}
+use Rattle.lb_desk_model.specs.Backends.{BackendParts}
+use Rattle.lb_desk_model.specs.Seen.{Seen}
+use Rattle.lb_desk_shared.specs.declared.journal_copy.JournalCopy.{JournalCopy}
+use Rattle.lb_desk_shared.specs.Calls.{entries_of}
+use Rattle.lb_desk_shared.specs.Desks.{AtAPoint, IsCopyOf}
+use Rattle.lb_desk_steer.specs.Steering.{AreIn, ArePinsAfter, IsJournalAfter, Moment}
+use Rattle.lb_desk_tie.specs.Receipts.{Each, StandsIn, rises_from}
+
+-- the list from n on, cut before a place that is no earlier
+cut : {A : Type 0} (xs : List A) (n k : ℕ) (x : A) → n ≤ k → slice_get xs k ≡ Some x → (before : List A) × (drop n xs ≡ before ++ x ∷ drop (k + 1) xs)
+cut [] n k x within at = absurd cc
+cut (y ∷ ys) zero zero x within at = ([], cc)
+cut (y ∷ ys) zero (suc k) x within at =
+    let rest = cut ys zero k x (omega arith) at in
+    (y ∷ rest.0, ap (λ (zs : List _). y ∷ zs) rest.1)
+cut (y ∷ ys) (suc n) zero x within at = absurd (omega arith)
+cut (y ∷ ys) (suc n) (suc k) x within at = cut ys n k x (omega arith) at
+
+-- receipts whose numbers rise are in the history in their order
+are_in : (history : List Entry) (n : ℕ) (receipts : List (ℕ × Entry)) → Each (StandsIn history) receipts → rises_from n receipts ≡ true
+    → AreIn (entries_of receipts) (drop n history)
+are_in history n [] stand rise = tt
+are_in history n (receipt ∷ receipts) stand rise =
+    let parts = and_parts (nat_le n receipt.0) (rises_from (receipt.0 + 1) receipts) rise in
+    let first : nat_le n receipt.0 ≡ true = parts.0 in
+    let within : n ≤ receipt.0 = grind (arith, nat_tests) in
+    let here = cut history n receipt.0 receipt.1 within stand.0 in
+    (here.0, drop (receipt.0 + 1) history, here.1, are_in history (receipt.0 + 1) receipts stand.1 parts.1)
+
+abbrev moment_of : (backend : BackendParts) (receipts : List (ℕ × Entry)) (point : AtAPoint backend receipts (λ desk. Unit {0})) → Moment backend (entries_of receipts)
+moment_of backend receipts point =
+    let reached = point.1 in
+    record {
+      history = reached.history;
+      state = reached.stands.reaches.state;
+      steps = reached.stands.reaches.history;
+      has = are_in reached.history 0 receipts reached.stand reached.rise;
+    }
+
+pub pins_after : (backend : BackendParts) (receipts : List (ℕ × Entry)) (pins : List TablePin)
+    → AtAPoint backend receipts (λ desk. pins ≡ desk.shown.pins) → ArePinsAfter backend (entries_of receipts) pins
+pins_after backend receipts pins point =
+    (moment_of backend receipts (point.0, point.1, tt), point.2 ∙ ap (λ (s : Seen). s.pins) (sym point.1.stands.reaches.is))
+
+pub journal_after : (backend : BackendParts) (receipts : List (ℕ × Entry)) (copy : JournalCopy)
+    → AtAPoint backend receipts (λ desk. IsCopyOf desk.journal copy) → IsJournalAfter backend (entries_of receipts) copy.first copy.entries.items
+journal_after backend receipts copy point =
+    let end = point.1.stands.end in
+    let history = point.1.history in
+    let first : copy.first ≡ point.0.journal.first = point.2.first in
+    let entries : copy.entries.items ≡ point.0.journal.entries = point.2.entries in (
+      moment_of backend receipts (point.0, point.1, tt),
+      entries ∙ end.kept ∙ ap (λ (n : ℕ). drop n history) (sym first),
+      (λ i. first i + length (entries i)) ∙ end.counted,
+    )
