@@ -13,15 +13,21 @@ use Rattle.lb_desk_shared.specs.Desks.{AtAPoint, IsCopyOf}
 use Rattle.lb_desk_steer.specs.Steering.{AreIn, ArePinsAfter, IsJournalAfter, Moment}
 use Rattle.lb_desk_tie.specs.Receipts.{Each, StandsIn, rises_from}
 
+cut_before : {A : Type 0} (xs : List A) (n k : ℕ) (x : A) → n ≤ k → slice_get xs k ≡ Some x → (before : List A) × (drop n xs ≡ before ++ x ∷ drop (suc k) xs)
+cut_before [] n k x within at = absurd cc
+cut_before (y ∷ ys) zero zero x within at = ([], cc)
+cut_before (y ∷ ys) zero (suc k) x within at =
+    let rest = cut_before ys zero k x (omega arith) at in
+    (y ∷ rest.0, ap (λ (zs : List _). y ∷ zs) rest.1)
+cut_before (y ∷ ys) (suc n) zero x within at = absurd (omega arith)
+cut_before (y ∷ ys) (suc n) (suc k) x within at = cut_before ys n k x (omega arith) at
+
 -- the list from n on, cut before a place that is no earlier
 cut : {A : Type 0} (xs : List A) (n k : ℕ) (x : A) → n ≤ k → slice_get xs k ≡ Some x → (before : List A) × (drop n xs ≡ before ++ x ∷ drop (k + 1) xs)
-cut [] n k x within at = absurd cc
-cut (y ∷ ys) zero zero x within at = ([], cc)
-cut (y ∷ ys) zero (suc k) x within at =
-    let rest = cut ys zero k x (omega arith) at in
-    (y ∷ rest.0, ap (λ (zs : List _). y ∷ zs) rest.1)
-cut (y ∷ ys) (suc n) zero x within at = absurd (omega arith)
-cut (y ∷ ys) (suc n) (suc k) x within at = cut ys n k x (omega arith) at
+cut xs n k x within at =
+    let parts = cut_before xs n k x within at in
+    let next : suc k ≡ k + 1 = omega arith in
+    (parts.0, parts.1 ∙ ap (λ (m : ℕ). parts.0 ++ x ∷ drop m xs) next)
 
 -- receipts whose numbers rise are in the history in their order
 are_in : (history : List Entry) (n : ℕ) (receipts : List (ℕ × Entry)) → Each (StandsIn history) receipts → rises_from n receipts ≡ true
