@@ -19,12 +19,12 @@ ran r reading config out out' err err' read runs =
     subst (λ (x : Result ConfigView LocatedFault). IfOk r (λ is_done. RunsText x is_done out out' err err')) (sym read) runs
 
 -- the text has this fault
-pub told : {E : Type 0} (r : Result Bool E) (reading : Result ConfigView LocatedFault) (fault : LocatedFault) (out out' err : Option (List ℕ))
+pub printed : {E : Type 0} (r : Result Bool E) (reading : Result ConfigView LocatedFault) (fault : LocatedFault) (out out' err : Option (List ℕ))
     → reading ≡ Err fault → IfOk r (λ is_done. PrintsFault fault is_done out out')
     → IfOk r (λ is_done. RunsText reading is_done out out' err err)
-told (Ok is_done) reading fault out out' err read prints =
+printed (Ok is_done) reading fault out out' err read prints =
     subst (λ (x : Result ConfigView LocatedFault). RunsText x is_done out out' err err) (sym read) (prints, refl)
-told (Err e) reading fault out out' err read prints = tt
+printed (Err e) reading fault out out' err read prints = tt
 
 pub is_config : (reading : Result ConfigView LocatedFault) (config : ConfigView) → reading ≡ Ok config → IsConfigText reading
 is_config reading config read = subst IsConfigText (sym read) tt

@@ -27,14 +27,24 @@ pub(crate) struct RunDesks<'a, B: Naming> {
 }
 
 impl<'a, B: Naming> RunDesks<'a, B> {
+    fn enter<R: Wait>(
+        &self,
+        rt: &R,
+        desk: &'a SharedDesk<RandomState, B>,
+    ) -> Result<RunSeat<'a, B>, Refused>
+        ensures { IfOk result (λ seat. seat.pass.keeper ≡ desk.now) }
+    {
+        let pass = desk.enter(rt)?;
+        Ok(Seat::new(self.alloc, desk, pass))
+    }
+
     fn take_seat<R: Wait>(&self, rt: &R, number: usize) -> Result<RunSeat<'a, B>, Refused>
         ensures { IfOk result (λ seat. seat.pass.keeper ≡ number) }
     {
         let Some(desk) = self.desks.get(number) else {
             return Err(Refused::Memory);
         };
-        let pass = desk.enter(rt)?;
-        Ok(Seat::new(self.alloc, desk, pass))
+        self.enter(rt, desk)
     }
 
     fn take_seats<R: Wait>(&self, rt: &R) -> Result<Vec<RunSeat<'a, B>>, Refused>
@@ -43,8 +53,8 @@ impl<'a, B: Naming> RunDesks<'a, B> {
     {
         let mut seats = Vec::with_capacity(self.alloc, self.desks.len())?;
         for desk in self.desks {
-            let pass = desk.enter(rt)?;
-            seats.push(Seat::new(self.alloc, desk, pass))?;
+            let seat = self.enter(rt, desk)?;
+            seats.push(seat)?;
         }
         Ok(seats)
     }

@@ -12,7 +12,7 @@ use lb_desk_backend::backend_of;
 use lb_desk_model::Backend;
 use lb_desk_planner::Bell;
 use lb_desk_ports::Refused;
-use lb_run_floor::{Floor, Host, Seating, SharedGate, leave_all, seats};
+use lb_run_floor::{Desks, Floor, Host, Seating, SharedGate, leave_all, seats};
 use std::alloc::{AllocError, Global};
 use std::sync::atomic::{AtomicBool, Ordering};
 use std::thread;
@@ -73,7 +73,7 @@ fn start_operators<'s, E, R: Host, D: Seating<R> + Send + Sync, G: SharedGate<R>
 }
 
 /// Waits until each worker has finished its requests and ended. Clients that alone hold this up for longer than they may are cut off.
-fn wait_for_workers<R: Host, D: Seating<R>, G: Drop>(rt: &R, floor: &Floor<'_, D, G>) {
+fn wait_for_workers<R: Host, D: Desks, G: Drop>(rt: &R, floor: &Floor<'_, D, G>) {
     for _ in rt.forever() {
         if floor.roster.is_empty() {
             break;

@@ -7,13 +7,13 @@ use Rattle.lb_run.proofs.Counting.{length-numbers}
 use Rattle.lb_run.proofs.Order.{numbered}
 use Rattle.lb_run.proofs.running.run_named.Goals as goal
 
-pub serve-requires-clause-count-after_bounds : goal.serve-requires-clause-count-after_bounds
-serve-requires-clause-count-after_bounds g c κs within =
+pub serve-requires-clause-count : goal.serve-requires-clause-count
+serve-requires-clause-count g c κs within =
     ap (λ l. length l) c.deref.ensures.value ∙ ap (λ l. length l) c.in_ok-desks.ensures ∙ length-numbers c.args.desks.items
     ∙ Open-length c.args.config.now.backends c.args.desks.items c.requires.opened
 
-pub serve-requires-clause-order-after_bounds : goal.serve-requires-clause-order-after_bounds
-serve-requires-clause-order-after_bounds g c κs within =
+pub serve-requires-clause-order : goal.serve-requires-clause-order
+serve-requires-clause-order g c κs within =
     subst (λ (l : List ℕ). StandInOrder (λ (number : ℕ). number) l) (sym (c.deref.ensures.value ∙ c.in_ok-desks.ensures)) (numbered c.args.desks.items)
 
 pub close_all-requires : goal.close_all-requires
