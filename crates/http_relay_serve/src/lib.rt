@@ -8,18 +8,28 @@
 #![tactic(auto)]
 
 mod answering;
+mod beginning;
 mod cause;
 mod fault;
+mod finding;
+mod going;
 mod outcome;
+mod parcel;
 mod participants;
+mod placing;
 mod relaying;
 mod routing;
 mod serving;
+mod underway;
 
 pub use answering::answer;
+pub use beginning::begin;
 pub use cause::Cause;
 pub use fault::{AskFault, BackendFault, ServeFault};
+pub use going::go_on;
 pub use outcome::{DropCause, Outcome};
+pub use parcel::Parcel;
 pub use participants::{Client, Worker};
 pub use routing::Routing;
 pub use serving::serve_one;
+pub use underway::{Queued, Stage, Step, Underway};
