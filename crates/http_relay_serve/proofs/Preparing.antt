@@ -5,7 +5,7 @@ use Rattle.std.specs.declared.net.ipv4_addr.Ipv4Addr.{Ipv4Addr}
 use Rattle.http_relay_dial.specs.Dials.{Talk}
 use Rattle.http_relay_head.specs.ReadHeadView.{ReadHeadView}
 use Rattle.http_relay_talk.specs.declared.fault.VisitFault.{VisitFault}
-use Rattle.http_relay_serve.specs.Parts.{Finds, Prepares}
+use Rattle.http_relay_serve.specs.Parts.{Finds, Prepares, at_backend, visited}
 use Rattle.http_relay_serve.specs.Routes.{Routes}
 use Rattle.http_relay_serve.specs.Serves.{PortSeen, ClockSeen, DialerSeen, Scene, ServesAt, ServesAtBackend, Relays, Visits, scene}
 use Rattle.http_relay_serve.specs.Steps.{relayed}
@@ -34,12 +34,12 @@ not_found seen server_of routes source ports clock dialer client headed (Head fa
 not_found seen server_of routes source ports clock dialer client headed (Backend fault) h = absurd h
 
 -- a request at its backend
-pub at_backend : {P S : Type 0} (seen : P → PortSeen) (server_of : S → ℕ) (routes : Routes) (source : Ipv4Addr) (ports used : List P) (old new : P)
+pub goes_to : {P S : Type 0} (seen : P → PortSeen) (server_of : S → ℕ) (routes : Routes) (source : Ipv4Addr) (ports used : List P) (old new : P)
     (clock : ClockSeen) (dialer : DialerSeen) (client headed : Talk) (after : Scene) (found : Found) (answer : Result ℕ BackendFault)
     → Finds routes source client headed (Ok found) → slice_get ports found.backend ≡ Some old → used ≡ slice_set ports found.backend new
     → ServesAt server_of routes found.backend found.read (seen old) (seen new) (scene clock dialer headed) after answer
     → ServesAtBackend seen server_of routes source ports used (scene clock dialer client) after answer
-at_backend seen server_of routes source ports used old new clock dialer client headed after found answer h its_port other_ports serves = record {
+goes_to seen server_of routes source ports used old new clock dialer client headed after found answer h its_port other_ports serves = record {
   read = found.read;
   client = headed;
   takes_head = h.0;
@@ -60,6 +60,20 @@ pub after_visit : {P S : Type 0} (seen : P → PortSeen) (server_of : S → ℕ)
     → Visits server_of routes found.backend found.read (seen old) (seen new) (scene clock dialer headed) after answer
     → Relays seen server_of routes source ports used (scene clock dialer client) after (relayed answer)
 after_visit seen server_of routes source ports used old new clock dialer client headed after found (Ok count) h its_port other_ports visits =
-    at_backend seen server_of routes source ports used old new clock dialer client headed after found (Ok count) h its_port other_ports visits
+    goes_to seen server_of routes source ports used old new clock dialer client headed after found (Ok count) h its_port other_ports visits
 after_visit seen server_of routes source ports used old new clock dialer client headed after found (Err fault) h its_port other_ports visits =
-    at_backend seen server_of routes source ports used old new clock dialer client headed after found (Err (Visit fault)) h its_port other_ports visits
+    goes_to seen server_of routes source ports used old new clock dialer client headed after found (Err (Visit fault)) h its_port other_ports visits
+
+-- what a visit did is what was done at the backend
+pub visit_serves : {S : Type 0} (server_of : S → ℕ) (routes : Routes) (backend : ℕ) (read : ReadHeadView) (old new : PortSeen) (before after : Scene)
+    (answer : Result ℕ VisitFault) → Visits server_of routes backend read old new before after answer
+    → ServesAt server_of routes backend read old new before after (visited answer)
+visit_serves server_of routes backend read old new before after (Ok count) visits = visits
+visit_serves server_of routes backend read old new before after (Err fault) visits = visits
+
+-- and what was done at the backend is what was done
+pub backend_relays : {P S : Type 0} (seen : P → PortSeen) (server_of : S → ℕ) (routes : Routes) (source : Ipv4Addr) (ports used : List P) (before after : Scene)
+    (answer : Result ℕ BackendFault) → ServesAtBackend seen server_of routes source ports used before after answer
+    → Relays seen server_of routes source ports used before after (at_backend answer)
+backend_relays seen server_of routes source ports used before after (Ok count) serves = serves
+backend_relays seen server_of routes source ports used before after (Err fault) serves = serves

@@ -1,5 +1,5 @@
 -- What a request does in steps, wherever it is among what others do.
-use Rattle.std.proofs.Common.{◌≡◌, ℕ, List, [], ◌∷◌, ◌++◌, append_assoc, Option, Some, None, Result, Ok, Err, refl, sym, subst, ap, ◌∙◌}
+use Rattle.std.proofs.Common.{◌≡◌, ℕ, List, [], ◌∷◌, ◌++◌, append_assoc, Option, Some, None, Result, Ok, refl, sym, subst, ap, ◌∙◌}
 use Rattle.std.specs.Prelude.{slice_get, slice_set}
 use Rattle.std.specs.declared.net.ipv4_addr.Ipv4Addr.{Ipv4Addr}
 use Rattle.http_relay_dial.specs.Dials.{Talk}
@@ -28,7 +28,7 @@ use Rattle.http_relay_serve.specs.Outcomes.{outcome_of, Ends, GotAnswer}
 use Rattle.http_relay_serve.specs.Parts.{Finds, HasBegun, IsAsking, GoesOnAt}
 use Rattle.http_relay_serve.specs.Routes.{Routes}
 use Rattle.http_relay_serve.specs.Serves.{PortSeen, ClockSeen, DialerSeen, Scene, AsksAtMoment, Visits, Relays, Serves, outgoing, scene}
-use Rattle.http_relay_serve.specs.Steps.{AddsAt, GoesOn, IsOver, IsServed, IsServing, Keeps, Served, recorded, relayed, visit_of}
+use Rattle.http_relay_serve.specs.Steps.{AddsAt, GoesOn, IsOver, IsServed, IsServing, Keeps, Served, StepsAddUp, recorded, relayed, visit_of}
 use Rattle.http_relay_serve.specs.declared.fault.ServeFault.{ServeFault}
 use Rattle.http_relay_serve.specs.declared.finding.Found.{Found}
 use Rattle.http_relay_serve.specs.declared.going.Gone.TheVariants as gone
@@ -318,3 +318,31 @@ comes_to_end seen server_of wire talk target request own headed between underway
       record { old = old; new = new; its_port = its_port; other_ports = other_ports; adds = adds; pauses = is },
       (answer, between, visited, ends),
     )
+
+-- ---- all steps of a request
+
+pub add_up : {P S W C : Type 0} (seen : P → PortSeen) (server_of : S → ℕ) (wire : W → Talk) (talk : C → Talk) (routes : Routes)
+    → StepsAddUp seen server_of wire talk routes
+add_up seen server_of wire talk routes source share client underway (Waits next) ports used clock later dialer after s go =
+    let x = go s.target s.request s.own s.headed s.visits in
+    let more = x.0 in (
+      more,
+      x.1,
+      (
+        x.2.0,
+        record {
+          target = s.target;
+          request = s.request;
+          own = joined s.own more;
+          headed = s.headed;
+          visits = x.2.1;
+          serves = λ further last outcome over. subst
+              (λ (all : Share). IsServed seen server_of routes source underway.backend all client last outcome) (sym (joined_thrice share more further))
+              (s.serves (joined more further) last outcome
+              (subst (λ (all : Share). IsOver server_of s.target s.request all s.headed last outcome) (joined_thrice s.own more further) over));
+        },
+      ),
+    )
+add_up seen server_of wire talk routes source share client underway (Done last outcome) ports used clock later dialer after s go =
+    let x = go s.target s.request s.own s.headed s.visits in
+    (x.0, x.1, s.serves x.0 (talk last.wire) outcome x.2)

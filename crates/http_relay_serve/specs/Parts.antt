@@ -1,5 +1,5 @@
 -- The parts of a request's way to its server, and of a step there. No public clause cites this module.
-use Rattle.std.specs.Prelude.{◌≡◌, ℕ, ◌+◌, ◌≤◌, ⊥, List, [], ◌∷◌, length, Some, None, Result, Ok, Err, slice_get, slice_set}
+use Rattle.std.specs.Prelude.{◌≡◌, ℕ, ◌+◌, ◌≤◌, List, [], ◌∷◌, length, Some, None, Result, Ok, Err}
 use Rattle.std.specs.Vec.{vec_len, vec_capacity}
 use Rattle.std.specs.declared.net.ipv4_addr.Ipv4Addr.{Ipv4Addr}
 use Rattle.http_relay_body.specs.Bodies.{IsBody, IsBodyOf}
@@ -8,6 +8,7 @@ use Rattle.http_relay_exchange.specs.Requests.{OutgoingView}
 use Rattle.http_relay_head.specs.ReadHeadView.{ReadHeadView}
 use Rattle.http_relay_talk.specs.Shares.{Share, Adds, nothing, joined}
 use Rattle.http_relay_talk.specs.Visits.{IsVisit}
+use Rattle.http_relay_talk.specs.declared.fault.VisitFault.{VisitFault}
 use Rattle.http_relay_talk.specs.declared.target.Target.{Target}
 use Rattle.lb_acl.specs.HeadView.{HeadView}
 use Rattle.lb_desk_model.specs.declared.event.Request.{Request}
@@ -45,7 +46,7 @@ Finds routes source client headed (Err NoBackend) =
 Finds routes source client headed (Err (Head fault)) = TakesHead source client headed (Err fault)
 Finds routes source client headed (Err (Backend fault)) = ⊥
 
--- the request as it goes to the server, with what was read behind the client's head
+-- the request as it goes to the server, with what was read after the client's head
 abbrev pub sends : Prepared → List ℕ → OutgoingView
 sends prepared behind = record {
   head = prepared.head.items;
@@ -54,7 +55,7 @@ sends prepared behind = record {
   expects_continue = prepared.expects_continue;
 }
 
--- the backend has named the server, what this gets is made, and its memory has room for what was read behind the head; or there was no
+-- the backend has named the server, what this gets is made, and its memory has room for what was read after the head; or there was no
 -- server, or no memory and nothing was asked
 abbrev pub Prepares : Routes → ℕ → ReadHeadView → PortSeen → PortSeen → ClockSeen → ClockSeen → Result Prepared BackendFault → Type 0
 Prepares routes backend read old new clock later (Ok prepared) =
@@ -68,7 +69,17 @@ Prepares routes backend read old new clock later (Err (Visit fault)) = ⊥
 
 -- ---- a service that was begun
 
--- this share is that the backend was asked for what the configuration makes of the head, at the moment that was told, and named the server
+-- the answer of a request at its backend, by that of its visit
+abbrev pub visited : Result ℕ VisitFault → Result ℕ BackendFault
+visited (Ok count) = Ok count
+visited (Err fault) = Err (Visit fault)
+
+-- the answer of a request, by that at its backend
+abbrev pub at_backend : Result ℕ BackendFault → Result ℕ ServeFault
+at_backend (Ok count) = Ok count
+at_backend (Err fault) = Err (Backend fault)
+
+-- this share is that the backend was asked for what the configuration makes of the head, at the moment that the clock gave, and named the server
 pub record IsAsking (routes : Routes) (backend : ℕ) (head : HeadView) (target : Target) (share : Share) : Type 0 where
   pub request : Request
   pub made_of_head : routes.asks backend head request

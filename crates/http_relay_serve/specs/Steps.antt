@@ -17,7 +17,6 @@ use Rattle.http_relay_serve.specs.declared.fault.BackendFault.TheVariants.{Visit
 use Rattle.http_relay_serve.specs.declared.fault.ServeFault.{ServeFault}
 use Rattle.http_relay_serve.specs.declared.fault.ServeFault.TheVariants.{Backend}
 use Rattle.http_relay_serve.specs.declared.outcome.Outcome.{Outcome}
-use Rattle.http_relay_serve.specs.declared.participants.Client.{Client}
 use Rattle.http_relay_serve.specs.declared.underway.Stage.{Stage}
 use Rattle.http_relay_serve.specs.declared.underway.Stage.TheVariants.{Queueing, Copying}
 use Rattle.http_relay_serve.specs.declared.underway.Step.{Step}
@@ -127,3 +126,26 @@ abbrev pub GoesOn : {P S W C : Type 0} → (P → PortSeen) → (S → ℕ) → 
 GoesOn seen server_of wire talk target request own headed underway ports used clock later dialer after step =
     (share : Share) × AddsAt seen underway.backend share (due (visit_of underway.stage)) ports used clock later dialer after
     × ComesTo server_of wire talk target request (joined own share) headed underway.backend step
+
+-- ---- all steps
+
+-- with what the request has done by now it is being served at its backend, or has been served
+abbrev pub NowServed : {P S W C : Type 0} → (P → PortSeen) → (S → ℕ) → (W → Talk) → (C → Talk) → Routes → Ipv4Addr → ℕ → Share → Talk
+    → Step S W C → Type 0
+NowServed seen server_of wire talk routes source backend share client (Waits later) =
+    (later.backend ≡ backend) × IsServing seen server_of wire routes source backend share client (talk later.client.wire) later.stage
+NowServed seen server_of wire talk routes source backend share client (Done last outcome) =
+    IsServed seen server_of routes source backend share client (talk last.wire) outcome
+
+-- A request that is being served takes a step, of which what `go_on` promises holds. Then it is being served still, or has been served, with
+-- all that it has done by now. So the steps of a request add up to one service, however many they are and whatever is done between them
+abbrev pub StepsAddUp : {P S W C : Type 0} → (P → PortSeen) → (S → ℕ) → (W → Talk) → (C → Talk) → Routes → Type 0
+StepsAddUp {P = P} {S = S} {W = W} {C = C} seen server_of wire talk routes =
+    (source : Ipv4Addr) (share : Share) (client : Talk) (underway : Underway S W C) (step : Step S W C) (ports used : List P)
+    (clock later : ClockSeen) (dialer after : DialerSeen)
+    → IsServing seen server_of wire routes source underway.backend share client (talk underway.client.wire) underway.stage
+    → ((target : Target) (request : OutgoingView) (own : Share) (headed : Talk)
+    → IsVisiting server_of wire target request own headed (talk underway.client.wire) underway.stage
+    → GoesOn seen server_of wire talk target request own headed underway ports used clock later dialer after step)
+    → (more : Share) × AddsAt seen underway.backend more (due (visit_of underway.stage)) ports used clock later dialer after
+    × NowServed seen server_of wire talk routes source underway.backend (joined share more) client step

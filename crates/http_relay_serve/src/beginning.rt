@@ -1,6 +1,6 @@
 ghost use Rattle.std.specs.Prelude.{◌≡◌, ◌<◌, ◌≤◌, length};
 ghost use Rattle.http_relay_dial.specs.Dials.{talk_of};
-ghost use Rattle.http_relay_serve.specs.Parts.{BeginsAt, Starts};
+ghost use Rattle.http_relay_serve.specs.Parts.{BeginsAt, Starts, at_backend, visited};
 ghost use Rattle.http_relay_serve.specs.Serves.{port_seen, clock_seen, dialer_seen, scene};
 ghost use Rattle.http_relay_serve.specs.Steps.{Begins};
 
@@ -10,7 +10,7 @@ use crate::serving::end;
 use crate::{BackendFault, Client, Outcome, Routing, ServeFault, Stage, Step, Underway, Worker};
 use http_relay_dial::Dialer;
 use http_relay_head::{HEAD_ROOM, ReadHead};
-use http_relay_talk::{Step as Visit, Underway as Visiting, begin_visit};
+use http_relay_talk::{Step as Visit, Underway as Visiting, VisitFault, begin_visit};
 use http_relay_wire::Wire;
 use lb_desk_ports::{Clock, Gate, Port};
 use std::alloc::Global;
@@ -38,15 +38,7 @@ pub fn begin<R, T: Routing, P: Port<R>, K: Clock<R>, G: Gate<R>, D: Dialer<R>, C
     ensures pauses { K.pauses worker.new.clock ≡ K.pauses worker.old.clock }
 {
     let mut client = client;
-    let started = start(
-        rt,
-        alloc,
-        worker,
-        routing,
-        ports,
-        &mut client,
-        room,
-    );
+    let started = start(rt, alloc, worker, routing, ports, &mut client, room);
     match started {
         Started::Waits(backend, stage) => Step::Waits(Underway {
             client,
@@ -114,8 +106,7 @@ fn start<R, T: Routing, P: Port<R>, K: Clock<R>, G: Gate<R>, D: Dialer<R>, C: Wi
     );
     match begun {
         Begun::Waits(stage) => Started::Waits(backend, stage),
-        Begun::Ended(Ok(count)) => Started::Ended(Ok(count)),
-        Begun::Ended(Err(fault)) => Started::Ended(Err(ServeFault::Backend(fault))),
+        Begun::Ended(answer) => Started::Ended(at_backend(answer)),
     }
 }
 
@@ -149,15 +140,7 @@ fn begin_at<R, T: Routing, P: Port<R>, K: Clock<R>, G, D: Dialer<R>, C: Wire>(
         result }
     ensures pauses { K.pauses worker.new.clock ≡ K.pauses worker.old.clock }
 {
-    let prepared = match prepare(
-        rt,
-        alloc,
-        &mut worker.clock,
-        routing,
-        backend,
-        port,
-        read,
-    ) {
+    let prepared = match prepare(rt, alloc, &mut worker.clock, routing, backend, port, read) {
         Ok(prepared) => prepared,
         Err(fault) => return Begun::Ended(Err(fault)),
     };
@@ -176,7 +159,26 @@ fn begin_at<R, T: Routing, P: Port<R>, K: Clock<R>, G, D: Dialer<R>, C: Wire>(
         Visit::Waits(Visiting::Queueing(queueing)) => {
             Begun::Waits(Stage::Queueing(prepared.queue(read.rest(), queueing)))
         }
-        Visit::Done(Ok(count)) => Begun::Ended(Ok(count)),
-        Visit::Done(Err(fault)) => Begun::Ended(Err(BackendFault::Visit(fault))),
+        Visit::Done(answer) => Begun::Ended(visited(answer)),
+    }
+}
+
+/// The answer of a request at its backend, by that of its visit.
+fn visited(answer: Result<u64, VisitFault>) -> Result<u64, BackendFault>
+    ensures { result ≡ visited answer }
+{
+    match answer {
+        Ok(count) => Ok(count),
+        Err(fault) => Err(BackendFault::Visit(fault)),
+    }
+}
+
+/// The answer of a request, by that at its backend.
+fn at_backend(answer: Result<u64, BackendFault>) -> Result<u64, ServeFault>
+    ensures { result ≡ at_backend answer }
+{
+    match answer {
+        Ok(count) => Ok(count),
+        Err(fault) => Err(ServeFault::Backend(fault)),
     }
 }

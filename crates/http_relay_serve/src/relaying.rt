@@ -31,15 +31,7 @@ pub(crate) fn serve_at<R, T: Routing, P: Port<R>, K: Clock<R>, G, D: Dialer<R>, 
         (talk_of C.written C.reading C.faults client.new))
         result }
 {
-    let prepared = match prepare(
-        rt,
-        alloc,
-        &mut worker.clock,
-        routing,
-        backend,
-        port,
-        read,
-    ) {
+    let prepared = match prepare(rt, alloc, &mut worker.clock, routing, backend, port, read) {
         Ok(prepared) => prepared,
         Err(fault) => return Err(fault),
     };

@@ -1,4 +1,4 @@
-use Rattle.std.proofs.Common.{◌≡◌, subst}
+use Rattle.std.proofs.Common.{subst}
 use Rattle.http_relay_dial.specs.Dials.{talk_of}
 use Rattle.http_relay_serve.specs.Parts.{Starts}
 use Rattle.http_relay_serve.specs.Serves.{port_seen, clock_seen, dialer_seen, scene}

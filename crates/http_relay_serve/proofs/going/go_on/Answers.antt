@@ -1,10 +1,10 @@
-use Rattle.std.proofs.Common.{◌≡◌, get_or, refl, subst, ap, ◌∙◌}
-use Rattle.http_relay_dial.specs.Dials.{Talk, talk_of}
+use Rattle.std.proofs.Common.{get_or, refl, subst, ap, ◌∙◌}
+use Rattle.http_relay_dial.specs.Dials.{talk_of}
 use Rattle.http_relay_talk.specs.Visits.{due}
 use Rattle.http_relay_serve.specs.Outcomes.{outcome_of, Ends}
 use Rattle.http_relay_serve.specs.Parts.{GoesOnAt}
 use Rattle.http_relay_serve.specs.Serves.{port_seen, clock_seen, dialer_seen}
-use Rattle.http_relay_serve.specs.Steps.{relayed, visit_of}
+use Rattle.http_relay_serve.specs.Steps.{visit_of}
 use Rattle.http_relay_serve.specs.declared.outcome.Outcome.{Outcome}
 use Rattle.http_relay_serve.proofs.Places.{get_at}
 use Rattle.http_relay_serve.proofs.Services.{comes_to_end, goes_on}

@@ -1,4 +1,4 @@
-use Rattle.std.proofs.Common.{◌≡◌, sym, subst}
+use Rattle.std.proofs.Common.{sym, subst}
 use Rattle.http_relay_dial.specs.Dials.{talk_of}
 use Rattle.http_relay_talk.specs.Visits.{due}
 use Rattle.http_relay_serve.specs.Parts.{GoesOnAt}

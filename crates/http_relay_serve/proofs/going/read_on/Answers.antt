@@ -1,4 +1,4 @@
-use Rattle.std.proofs.Common.{◌≡◌, [], None, subst, ap, ◌∙◌}
+use Rattle.std.proofs.Common.{[], None, subst, ap, ◌∙◌}
 use Rattle.http_relay_dial.specs.Dials.{talk_of}
 use Rattle.http_relay_talk.specs.Visits as visit
 use Rattle.http_relay_talk.specs.declared.underway.Step.TheVariants as visit_step
@@ -36,7 +36,7 @@ returns-in-Done-clause-steps g c target request own headed h =
     (recorded new clock (dialer c.copy_on.new.dialer)) [] step) c.in-Done.is
     (c.copy_on.ensures.steps target request own headed (g.K.Clock.told c.args.worker.now.clock) h.1))
 
-pub unreachable : goal.unreachable
-unreachable g c =
+pub unreachable-requires : goal.unreachable-requires
+unreachable-requires g c =
     subst (λ step. visit.Nears None g.D.Connection.Wire.reading (visit_stage.Copying c.args.held) step)
     (c.in-Waits-Queueing.is ∙ ap (λ u. visit_step.Waits u) c.in-Waits-Queueing.field-0-is) (c.copy_on.ensures.nears None)

@@ -1,7 +1,7 @@
-use Rattle.std.proofs.Common.{◌≡◌, Ok, Err, ap, ◌∙◌}
+use Rattle.std.proofs.Common.{Ok, Err, ap, ◌∙◌}
 use Rattle.http_relay_dial.specs.Dials.{talk_of}
 use Rattle.http_relay_serve.specs.Parts.{sends}
-use Rattle.http_relay_serve.specs.Serves.{port_seen, clock_seen, dialer_seen, scene, outgoing}
+use Rattle.http_relay_serve.specs.Serves.{port_seen, clock_seen, dialer_seen, scene}
 use Rattle.http_relay_serve.proofs.Preparing.{not_prepared}
 use Rattle.http_relay_serve.proofs.Stages.{visits}
 use Rattle.http_relay_serve.proofs.relaying.serve_at.Goals as goal
