@@ -4,12 +4,13 @@ ghost use Rattle.http_relay_serve.specs.Outcomes.{Ends, GotAnswer};
 ghost use Rattle.http_relay_serve.specs.Serves.{Relays, Serves, port_seen, clock_seen, dialer_seen, scene};
 
 use crate::answering::answer;
+use crate::finding::{Found, find};
 use crate::relaying::serve_at;
 use crate::{Client, DropCause, Outcome, Routing, ServeFault, Worker};
 use http_relay_dial::Dialer;
-use http_relay_head::{HEAD_ROOM, read_head};
+use http_relay_head::HEAD_ROOM;
 use http_relay_wire::Wire;
-use lb_desk_ports::{Clock, Gate, Point, Port};
+use lb_desk_ports::{Clock, Gate, Port};
 use std::alloc::Global;
 
 /// Serves one request of the client, with one port for each backend of the configuration, by its number. The head is read into
@@ -55,13 +56,18 @@ fn relay<R, T: Routing, P: Port<R>, K: Clock<R>, G: Gate<R>, D: Dialer<R>, C: Wi
         (talk_of C.written C.reading C.faults client.new.wire))
         result }
 {
-    let read = match read_head(alloc, &mut client.wire, room, client.source) {
-        Ok(read) => read,
-        Err(fault) => return Err(ServeFault::Head(fault)),
-    };
-    worker.gate.at(rt, Point::HeadRead);
-    let Some(backend) = routing.backend(&read.head()) else {
-        return Err(ServeFault::NoBackend);
+    let found = find(
+        rt,
+        alloc,
+        &mut worker.gate,
+        routing,
+        client.source,
+        &mut client.wire,
+        room,
+    );
+    let Found { read, backend } = match found {
+        Ok(found) => found,
+        Err(fault) => return Err(fault),
     };
     match serve_at(
         rt,
@@ -79,7 +85,7 @@ fn relay<R, T: Routing, P: Port<R>, K: Clock<R>, G: Gate<R>, D: Dialer<R>, C: Wi
 }
 
 /// Gives the client the relay's own answer, where that is due, and says what became of the request.
-fn end<C: Wire>(client: &mut C, due: Outcome) -> Outcome
+pub(crate) fn end<C: Wire>(client: &mut C, due: Outcome) -> Outcome
     ensures { Ends due (talk_of C.written C.reading C.faults client.old) (talk_of C.written C.reading C.faults client.new) result }
 {
     let Outcome::Answered(cause) = due else {
