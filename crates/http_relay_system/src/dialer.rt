@@ -34,7 +34,7 @@ impl<'a> SocketDialer<'a> {
         }
     }
 
-    /// A dialer that hasn't failed yet. It attends to the clients that this is told of.
+    /// A dialer that hasn't failed yet. It attends to these clients.
     pub fn beside(clients: Option<&'a Attended>) -> Self
         ensures { result.failures ≡ 0 }
     {
