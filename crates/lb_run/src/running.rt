@@ -119,9 +119,9 @@ fn serve<R: Host + Files, B: Naming + Send + Sync, G: SharedGate<R>>(
 }
 
 /// Runs all threads on the floor.
-fn serve_on<R: Host + Files, D: Seating<R> + Send + Sync, G: SharedGate<R>>(
+fn serve_on<R: Host + Files, B: Naming + Send + Sync, G: SharedGate<R>>(
     rt: &R,
-    floor: &Floor<'_, D, G>,
+    floor: &Floor<'_, RunDesks<'_, B>, G>,
     clients: Vec<ClientDoor>,
     operators: Option<CommandListener>,
 ) -> Result<(), Refused> {
@@ -133,10 +133,10 @@ fn serve_on<R: Host + Files, D: Seating<R> + Send + Sync, G: SharedGate<R>>(
 }
 
 /// The same in this scope. The operators' address is free again as soon as no operator is answered any more.
-fn serve_in<'s, E, R: Host + Files, D: Seating<R> + Send + Sync, G: SharedGate<R>>(
+fn serve_in<'s, E, R: Host + Files, B: Naming + Send + Sync, G: SharedGate<R>>(
     rt: &'s R,
     scope: &'s Scope<'s, E>,
-    floor: &'s Floor<'s, D, G>,
+    floor: &'s Floor<'s, RunDesks<'s, B>, G>,
     clients: Vec<ClientDoor>,
     operators: Option<CommandListener>,
 ) -> Result<(), Refused> {
