@@ -118,22 +118,35 @@ fn serve<R: Host + Files, B: Naming + Send + Sync, G: SharedGate<R>>(
     Ok(())
 }
 
-/// Runs all threads on the floor. The operators' address is free again as soon as no operator is answered any more.
-fn serve_on<R: Host + Files, D: Seating<R> + Send + Sync, G: SharedGate<R>>(
+/// Runs all threads on the floor.
+fn serve_on<R: Host + Files, B: Naming + Send + Sync, G: SharedGate<R>>(
     rt: &R,
-    floor: &Floor<'_, D, G>,
+    floor: &Floor<'_, RunDesks<'_, B>, G>,
     clients: Vec<ClientDoor>,
     operators: Option<CommandListener>,
 ) -> Result<(), Refused> {
-    thread::scope(thread::scope_env(), rt, move |scope| {
-        let served = start_and_answer(rt, scope, floor, clients, operators.as_ref());
-        floor.stop();
-        if let Some(listener) = operators {
-            // A file that stays is replaced at the next start.
-            let _ = listener.close(rt);
-        }
-        served
-    })
+    thread::scope(
+        thread::scope_env(),
+        rt,
+        move |scope| serve_in(rt, scope, floor, clients, operators),
+    )
+}
+
+/// The same in this scope. The operators' address is free again as soon as no operator is answered any more.
+fn serve_in<'s, E, R: Host + Files, B: Naming + Send + Sync, G: SharedGate<R>>(
+    rt: &'s R,
+    scope: &'s Scope<'s, E>,
+    floor: &'s Floor<'s, RunDesks<'s, B>, G>,
+    clients: Vec<ClientDoor>,
+    operators: Option<CommandListener>,
+) -> Result<(), Refused> {
+    let served = start_and_answer(rt, scope, floor, clients, operators.as_ref());
+    floor.stop();
+    if let Some(listener) = operators {
+        // A file that stays is replaced at the next start.
+        let _ = listener.close(rt);
+    }
+    served
 }
 
 /// Starts all threads, and returns once the balancer is to end and operators are answered no more. Returning, it has let go of all

@@ -1,4 +1,4 @@
-use Rattle.std.proofs.Common.{◌≡◌, Ok, Err}
+use Rattle.std.proofs.Common.{◌≡◌, Err}
 use Rattle.lb_config.specs.Configs.{config_in}
 use Rattle.lb_run.proofs.JobEnds.{is_config, printed, ran}
 use Rattle.lb_run.proofs.job.run_text.Goals as goal

@@ -1,4 +1,4 @@
-use Rattle.std.proofs.Common.{◌≡◌, ◌∙◌, ℕ, ◌+◌, List, length, refl, ap, sym, subst}
+use Rattle.std.proofs.Common.{◌∙◌, ℕ, ◌+◌, List, length, refl, ap, sym, subst}
 use Rattle.std.proofs.lemmas.List.{length_push}
 use Rattle.std.proofs.lemmas.Option.{slice_get_read}
 use Rattle.lb_desk_seat.specs.Seats.{SeatView}
