@@ -6,7 +6,7 @@ use std::io;
 use std::io::{ErrorKind, Read, Write};
 
 /// What a read answers: how many bytes came, and the first of them.
-type Given = Result<(usize, u8), WireFault>;
+pub(crate) type Given = Result<(usize, u8), WireFault>;
 
 const TIMEOUT: WireFault = WireFault::Timeout;
 
@@ -20,7 +20,7 @@ fn read_some(wire: &mut impl Wire) -> Given {
 }
 
 // The next reads give this.
-fn gives(wire: &mut impl Wire, expected: &[Given]) -> bool {
+pub(crate) fn gives(wire: &mut impl Wire, expected: &[Given]) -> bool {
     for given in expected {
         if read_some(wire) != *given {
             return false;

@@ -1,8 +1,6 @@
+use crate::wires::{Given, gives};
 use http_relay_socket::FrontedWire;
-use http_relay_wire::{Script, ScriptedWire, Wire, WireFault, write_all};
-
-/// What a read answers: how many bytes came, and the first of them.
-type Given = Result<(usize, u8), WireFault>;
+use http_relay_wire::{Script, ScriptedWire, WireFault, write_all};
 
 /// What was read before, what the wrapped wire sends, how reading had failed, and what reads of four bytes give.
 type Front = (
@@ -36,23 +34,6 @@ const FRONTS: &[Front] = &[
         &[Err(WireFault::Broken)],
     ),
 ];
-
-// What a read of at most four bytes gives, as far as it was filled.
-fn read_some(wire: &mut impl Wire) -> Given {
-    let mut buffer = [0; 4];
-    let count = wire.read(&mut buffer)?;
-    Ok((count, buffer[0]))
-}
-
-// The next reads give this.
-fn gives(wire: &mut impl Wire, expected: &[Given]) -> bool {
-    for given in expected {
-        if read_some(wire) != *given {
-            return false;
-        }
-    }
-    true
-}
 
 // The bytes that were read before come first, and alone. After them each read fails, or the wire's own bytes come.
 #[test]
