@@ -8,7 +8,7 @@ from .answers import CONTINUE, own
 from .cases import case, expect, expect_equal, wait_until
 from .clients import Client, ask, get
 from .farms import LIMITS, TABLE, Balancer, Farm, ends_well, listen, section, server
-from .origins import Handler, Talk, answers, response, sends
+from .origins import Gate, Handler, Talk, answers, response, sends
 
 A = response(b"a")
 GET = b"GET / HTTP/1.1\r\nHost: x\r\n\r\n"

@@ -13,7 +13,7 @@ from pathlib import Path
 
 from .answers import own
 from .cases import PATIENCE, case, expect, expect_equal, wait_until
-from .clients import Client, ask, ask_operator, at_once, get, is_refused, operator_stream
+from .clients import Client, ask, ask_operator, at_once, get, is_refused
 from .farms import HOST, LIMITS, TABLE, Balancer, Ending, Farm, ends_well, listen, server
 from .hostile import dark_server
 from .origins import Gate, answers, response
@@ -200,7 +200,7 @@ def a_client_is_known_by_its_address(farm: Farm) -> None:
 
 
 @case
-def a_second_stop_is_harmless(farm: Farm) -> None:
+def two_stops_in_a_line_are_one(farm: Farm) -> None:
     gate, port = Gate(answers(b"a")), farm.port()
     balancer = farm.start(listen(port, *LIMITS, server("a", farm.origin(gate))))
     with Client(port) as client:
@@ -208,8 +208,7 @@ def a_second_stop_is_harmless(farm: Farm) -> None:
         gate.wait_for(1)
         expect_equal("two in a line", balancer.tell("stop; stop"), "\n\n")
         wait_until("nobody else is accepted", lambda: is_refused(port))
-        with contextlib.suppress(OSError, AssertionError), operator_stream(farm.folder / "operators", 0.2) as stream:
-            stream.sendall(b"stop\n")
+        threading.Event().wait(0.3)
         gate.open()
         expect_equal("the answer", client.read_to_end(), A)
     ended = balancer.wait()
