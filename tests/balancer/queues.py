@@ -55,7 +55,7 @@ def for_one_that_resets_while_it_waits_for_a_full_server_nobody_is_dialled(farm:
         wait_until("the server is asked again", lambda: count(balancer, "open a -> 30 Full") > full + 1)
         gate.open()
         expect_equal("the first one's answer", first.read_to_end(), A)
-        balancer.wait_all_closed("web")
+        wait_until("its turn came", lambda: count(balancer, "close a -> closed a") == 2)
     expect_equal("what the server got", len(origin.requests(1)), 1)
     ends_well(balancer)
 
