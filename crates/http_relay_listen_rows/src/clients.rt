@@ -60,7 +60,7 @@ fn connections_have_their_limits(rt: HostRuntime) -> Result<(), Fail> {
         client.write_all(REQUEST)?;
         let (gathered, arrival) = join(
             &rt,
-            || gather(&rt, listener, rules, &stop, to),
+            || gather(&rt, rt.alloc(), listener, rules, &stop, to),
             || {
                 let arrival = next(&rt, &from);
                 stop.store(true, Ordering::SeqCst);
@@ -112,7 +112,7 @@ fn a_stop_ends_the_listener_and_the_line(rt: HostRuntime) -> Result<(), Fail> {
     let begun = Instant::now(&rt)?;
     let (gathered, _) = join(
         &rt,
-        || gather(&rt, listener, rules(LONG, 8), &stop, to),
+        || gather(&rt, rt.alloc(), listener, rules(LONG, 8), &stop, to),
         || stop.store(true, Ordering::SeqCst),
     );
     gathered?;
@@ -135,7 +135,7 @@ fn two_hundred_clients_are_handed_on(rt: HostRuntime) -> Result<(), Fail> {
     let stop = AtomicBool::new(false);
     let (gathered, taken) = join(
         &rt,
-        || gather(&rt, listener, rules(LONG, 8), &stop, to),
+        || gather(&rt, rt.alloc(), listener, rules(LONG, 8), &stop, to),
         || {
             let taken = take_all(&rt, &from, 200);
             stop.store(true, Ordering::SeqCst);

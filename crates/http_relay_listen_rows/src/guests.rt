@@ -73,7 +73,7 @@ fn a_slow_head_hinders_no_other(rt: HostRuntime) -> Result<(), Fail> {
     let stop = AtomicBool::new(false);
     let (gathered, came) = join(
         &rt,
-        || gather(&rt, listener, rules(LONG, 8), &stop, to),
+        || gather(&rt, rt.alloc(), listener, rules(LONG, 8), &stop, to),
         || {
             let came = come_in_turn(&rt, address, &from);
             stop.store(true, Ordering::SeqCst);
@@ -116,7 +116,7 @@ fn a_silent_client_is_dismissed(rt: HostRuntime) -> Result<(), Fail> {
     let stop = AtomicBool::new(false);
     let (gathered, times) = join(
         &rt,
-        || gather(&rt, listener, rules(SHORT, 8), &stop, to),
+        || gather(&rt, rt.alloc(), listener, rules(SHORT, 8), &stop, to),
         || {
             let times = are_dismissed(&rt, address, &from);
             stop.store(true, Ordering::SeqCst);
@@ -167,7 +167,7 @@ fn the_oldest_leaves_a_full_lobby(rt: HostRuntime) -> Result<(), Fail> {
     let stop = AtomicBool::new(false);
     let (gathered, went) = join(
         &rt,
-        || gather(&rt, listener, rules(NONE, 2), &stop, to),
+        || gather(&rt, rt.alloc(), listener, rules(NONE, 2), &stop, to),
         || oldest_goes(&rt, address, &from, &stop),
     );
     gathered?;
@@ -206,7 +206,7 @@ fn a_stop_leaves_guests_their_limit(rt: HostRuntime) -> Result<(), Fail> {
         let stop = AtomicBool::new(false);
         let (gathered, ends) = join(
             &rt,
-            || gather(&rt, listener, rules(limits, 8), &stop, to),
+            || gather(&rt, rt.alloc(), listener, rules(limits, 8), &stop, to),
             || stopped_within(&rt, address, &from, &stop),
         );
         gathered?;
@@ -253,7 +253,7 @@ fn a_stop_lets_newcomers_go(rt: HostRuntime) -> Result<(), Fail> {
         let (to, from) = line(&rt)?;
         let stop = AtomicBool::new(false);
         let listener = LastCall { inner, stop: &stop };
-        gather(&rt, listener, rules(limits, 8), &stop, to)?;
+        gather(&rt, rt.alloc(), listener, rules(limits, 8), &stop, to)?;
         let told = is_next(&rt, &from, b"", Some(WireFault::Timeout));
         let is_closed = matches!(client.read(&mut [0; 8]), Ok(0));
         assert!(rt; told == is_told && is_closed, "{limits:?}");
@@ -298,7 +298,7 @@ fn a_stop_waits_for_no_client_that_drips(rt: HostRuntime) -> Result<(), Fail> {
     let stop = AtomicBool::new(false);
     let (gathered, passed) = join(
         &rt,
-        || gather(&rt, listener, rules(SHORT, 8), &stop, to),
+        || gather(&rt, rt.alloc(), listener, rules(SHORT, 8), &stop, to),
         || drips_until_dismissed(&rt, address, &from, &stop),
     );
     gathered?;

@@ -136,7 +136,7 @@ fn errors_end_nothing(rt: HostRuntime) -> Result<(), Fail> {
             next: Cell::new(0),
             stop: &stop,
         };
-        gather(&rt, listener, rules(NONE, 8), &stop, to)?;
+        gather(&rt, rt.alloc(), listener, rules(NONE, 8), &stop, to)?;
         let waiting = from.len();
         assert!(rt; waiting == *handed_on, "{accepts:?}, {waiting}");
     }
@@ -189,7 +189,7 @@ fn a_full_line_holds_nobody_up(rt: HostRuntime) -> Result<(), Fail> {
     };
     let (gathered, (waiting, taken)) = join(
         &rt,
-        || gather(&rt, crowd, rules(NONE, 8), &stop, to),
+        || gather(&rt, rt.alloc(), crowd, rules(NONE, 8), &stop, to),
         || {
             wait_until_full(&rt, &from);
             let waiting = from.len();
@@ -213,7 +213,7 @@ fn without_workers_it_ends(rt: HostRuntime) -> Result<(), Fail> {
     let crowd = Crowd {
         inner: listen(&rt, any_port())?,
     };
-    gather(&rt, crowd, rules(NONE, 8), &stop, to)?;
+    gather(&rt, rt.alloc(), crowd, rules(NONE, 8), &stop, to)?;
     assert!(rt; !stop.load(Ordering::SeqCst));
     Ok(())
 }
@@ -237,7 +237,7 @@ fn workers_take_from_listeners_in_turn(rt: HostRuntime) -> Result<(), Fail> {
         };
         let mut rules = rules(NONE, 8);
         rules.frontend = frontend;
-        gather(&rt, listener, rules, stop, lane)?;
+        gather(&rt, rt.alloc(), listener, rules, stop, lane)?;
     }
     let mut places = [0; 8];
     for place in &mut places {

@@ -1,10 +1,10 @@
 use http_relay_listen::OtherFiles;
 use http_relay_lobby::{Arrival, Lane, Rules, WaitingLine, gather_until_stopped, waiting_line};
 use http_relay_socket::StreamLimits;
-use std::alloc::AllocError;
+use std::alloc::{AllocError, Global};
 use std::io;
 use std::io::{Read, Write};
-use std::net::{Ipv4Addr, OpenListener, OpenStream, SocketAddr, SocketAddrV4, TcpStream};
+use std::net::{Ipv4Addr, Net, OpenListener, OpenStream, SocketAddr, SocketAddrV4, TcpStream};
 use std::os::fd::AsRawFd;
 use std::sync::Wait;
 use std::sync::atomic::AtomicBool;
@@ -48,19 +48,21 @@ pub(crate) fn line<S: Drop>(rt: &HostRuntime) -> Result<(Lane<S>, WaitingLine<S>
 }
 
 /// Gathers clients until it is stopped. None is cut off.
-pub(crate) fn gather<L>(
-    rt: &HostRuntime,
+pub(crate) fn gather<R, L>(
+    rt: &R,
+    alloc: Global,
     listener: L,
     rules: Rules,
     stop: &AtomicBool,
     to: Lane<L::Stream>,
 ) -> io::Result<()>
 where
+    R: Net + Wait + Clock,
     L: OpenListener + AsRawFd + Drop,
     L::Stream: Read + Write + OpenStream + AsRawFd,
 {
     let cut = AtomicBool::new(false);
-    gather_until_stopped(rt, rt.alloc(), listener, rules, stop, &cut, to)
+    gather_until_stopped(rt, alloc, listener, rules, stop, &cut, to)
 }
 
 /// The next connection in the line, if one comes within 5 s.

@@ -6,9 +6,10 @@ use http_relay_system::{SocketDialer, SystemClock};
 use http_relay_wire::WireFault;
 use http_relay_work::{Leavers, Relay, serve_arrival};
 use lb_desk_ports::{OpenGate, PortScript, ScriptedPort};
-use std::net::TcpListener;
+use std::net::{Net, TcpListener, TcpStream};
+use std::sync::Wait;
 use std::test::Fail;
-use std::time::Instant;
+use std::time::{Clock, Instant};
 
 /// The frontend, what the lobby read of the client and how that ended, what follows on the stream and whether that ends there, the
 /// outcome, and what the client gets.
@@ -83,8 +84,9 @@ const ROWS: &[Row] = &[
 ];
 
 // Serves the row's request over one port, and gives the outcome and what the client got.
-fn serve<'a>(
+fn serve<'a, R: Net<Stream = TcpStream> + Clock + Wait>(
     rt: &HostRuntime,
+    waits: &R,
     relay: Relay<'_>,
     port: &'a PortScript<'a>,
     row: &Row,
@@ -108,7 +110,7 @@ fn serve<'a>(
     let mut room = [0; HEAD_ROOM];
     let mut leavers = Leavers::new(rt.alloc());
     let outcome = serve_arrival(
-        rt,
+        waits,
         rt.alloc(),
         relay,
         &mut worker,
@@ -133,7 +135,7 @@ fn connections_end_as_their_frontend_says(rt: HostRuntime) -> Result<(), Fail> {
             config: &config,
             start,
         };
-        let (outcome, answer) = serve(&rt, relay, &port, row)?;
+        let (outcome, answer) = serve(&rt, &rt, relay, &port, row)?;
         assert!(rt;
             outcome == *wanted && answer.as_slice() == *text,
             "{head:?}: {outcome:?}"
