@@ -53,7 +53,7 @@ def too_many_open_files_end_nothing_and_silent_clients_keep_nobody_out(farm: Far
     # All threads have opened their own files by then.
     expect_equal("the answer to a client", ask(port, GET), A)
     threading.Event().wait(1)
-    most = balancer.descriptors() + 8
+    most = balancer.descriptors() + 24
     resource.prlimit(balancer.process.pid, resource.RLIMIT_NOFILE, (most, most))
     with contextlib.ExitStack() as stack:
         clients = [stack.enter_context(Client(port)) for _ in range(30)]
