@@ -1,11 +1,12 @@
 //! Desks are closed, and their journals judged.
 ghost use Rattle.std.specs.Prelude.{◌≡◌};
+ghost use Rattle.lb_desk_tie.specs.Receipts.{AreOf};
 
 use crate::thread_calls::request_once;
 use crate::thread_farms::{Hasher, desk_of, farm};
 use lb_desk_model::{Backend, Entry, ServedAs};
 use lb_desk_ports::{Opening, Shut};
-use lb_desk_shared::{CloseFault, Closing, Naming, SharedDesk};
+use lb_desk_shared::{CloseFault, Closing, Naming, SharedDesk, StillOut};
 use lb_desk_tie::{Opened, Pass};
 use lb_types::ServerId;
 use std::alloc::Global;
@@ -63,11 +64,7 @@ fn close_thrice<B: Naming, R: Wait + Abort>(
         request_once(rt, alloc, &desk, &mut pass, "x")?,
         Some(ServedAs::Kept)
     );
-    let Err(out) = desk.close(Vec::new(alloc)) else {
-        panic!(rt; "closed with a pass out");
-    };
-    assert_eq!(rt; out.fault, CloseFault::PassesOut, "a pass is out");
-    let desk = SharedDesk::of_tied(out.desk);
+    let desk = close_with_a_pass_out(rt, alloc, desk)?;
     assert_eq!(rt; pass.keeper(), desk.number(), "a pass of this desk");
     assert_eq!(rt;
         desk.entries(rt, &mut pass, alloc)?.entries.len(),
@@ -75,15 +72,39 @@ fn close_thrice<B: Naming, R: Wait + Abort>(
         "nothing is lost"
     );
     assert_eq!(rt; desk.rows(rt, &mut pass, alloc)?.len(), 1, "one pin");
+    let closing = close_with_a_connection_open(rt, alloc, desk, pass)?;
+    judge(rt, alloc, backend, &closing)
+}
+
+/// Closes the desk without its pass, which it refuses, and lets it go on.
+fn close_with_a_pass_out<B: Naming, R: Abort>(
+    rt: &R,
+    alloc: Global,
+    desk: SharedDesk<Hasher, B>,
+) -> Result<SharedDesk<Hasher, B>, Fail> {
+    let Err(out) = desk.close(Vec::new(alloc)) else {
+        panic!(rt; "closed with a pass out");
+    };
+    assert_eq!(rt; out.fault, CloseFault::PassesOut, "a pass is out");
+    Ok(SharedDesk::of_tied(out.desk))
+}
+
+/// Closes the desk with a connection open, which it refuses, and then once that has ended.
+fn close_with_a_connection_open<B: Naming, R: Wait + Abort>(
+    rt: &R,
+    alloc: Global,
+    desk: SharedDesk<Hasher, B>,
+    pass: Pass<Entry, B>,
+) -> Result<Closing, Fail>
+    requires { pass.keeper ≡ desk }
+{
+    let mut pass = pass;
     let mut passes = Vec::with_capacity(alloc, 1)?;
     let Opening::Opened(slot) = desk.open(rt, &mut pass, ServerId::new(1))? else {
         panic!(rt; "not opened");
     };
     passes.push_reserved(pass);
-    let Err(out) = desk.close(passes) else {
-        panic!(rt; "closed with a connection open");
-    };
-    assert_eq!(rt; out.fault, CloseFault::SlotsOut, "a connection is open");
+    let out = refused_for_a_connection(rt, desk, passes);
     let desk = SharedDesk::of_tied(out.desk);
     let mut passes = out.passes;
     let Some(mut pass) = passes.pop() else {
@@ -96,7 +117,22 @@ fn close_thrice<B: Naming, R: Wait + Abort>(
     let Ok(closing) = desk.close(vec![in alloc; pass]?) else {
         panic!(rt; "not closed");
     };
-    judge(rt, alloc, backend, &closing)
+    Ok(closing)
+}
+
+/// Closes the desk with its passes, which it refuses since a connection is open.
+fn refused_for_a_connection<B: Naming, R: Abort>(
+    rt: &R,
+    desk: SharedDesk<Hasher, B>,
+    passes: Vec<Pass<Entry, B>>,
+) -> StillOut<Hasher, B>
+    requires { AreOf desk passes.items }
+{
+    let Err(out) = desk.close(passes) else {
+        panic!(rt; "closed with a connection open");
+    };
+    assert_eq!(rt; out.fault, CloseFault::SlotsOut, "a connection is open");
+    out
 }
 
 #[test]
