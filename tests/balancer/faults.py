@@ -364,8 +364,8 @@ def a_client_that_resets_while_its_server_is_waited_for_gives_its_connection_bac
     client.send(GET)
     gate.wait_for(1)
     client.reset()
-    # The server hasn't answered.
-    balancer.wait_all_closed("web")
+    # The server hasn't answered, and its limit is 20 s.
+    wait_until("the connection is given back", lambda: balancer.events("web") == VISIT, 3)
     expect_equal("events", balancer.events("web"), VISIT)
     gate.open()
     expect_equal("another client's answer", ask(port, GET), A)
