@@ -50,7 +50,7 @@ def entries_of(text: str) -> list[Entry]:
         found = re.fullmatch(r"(\d+) (.*) -> (.*)", line)
         expect(f"a line of a journal: {line!r}", found is not None)
         assert found is not None
-        event = re.sub(r"^(serve|expire) \d+", r"\1 N", found[2])
+        event = re.sub(r"^(serve|expire|set) \d+", r"\1 N", found[2])
         entries.append(Entry(int(found[1]), event, found[3]))
     return entries
 
@@ -186,14 +186,17 @@ class Farm:
         origin.open()
         return origin
 
-    def spawn(self, text: str, out: Path, err: Path, most_files: int | None = None) -> subprocess.Popen[bytes]:
-        """Starts the program under this configuration, with so many open files at most. It is killed with the farm, if it still runs."""
+    def spawn(self, text: str, out: Path, err: Path, most_files: int | None = None, closed: bool = False) -> subprocess.Popen[bytes]:
+        """Starts the program under this configuration, with so many open files at most, and with `closed` without standard streams. It is
+        killed with the farm, if it still runs."""
         self.balancers += 1
         config = self.folder / f"{self.balancers}.cfg"
         config.write_text(text)
         words = [str(self.program), "run", "-f", str(config)]
-        if most_files is not None:
-            words = ["sh", "-c", f'ulimit -n {most_files} && exec "$@"', "sh", *words]
+        limit = "" if most_files is None else f"ulimit -n {most_files} && "
+        without = " <&- >&- 2>&-" if closed else ""
+        if limit or without:
+            words = ["sh", "-c", f'{limit}exec "$@"{without}', "sh", *words]
         with out.open("wb") as to_out, err.open("wb") as to_err, TURN:
             expect("the tests go on", not ENDING.is_set())
             process = subprocess.Popen(words, stdin=subprocess.DEVNULL, stdout=to_out, stderr=to_err)

@@ -2,12 +2,17 @@
 
 from __future__ import annotations
 
+import re
+import signal
+import socket
 import threading
+from pathlib import Path
 
 from .answers import CONTINUE, own
-from .cases import case, expect, expect_equal, wait_until
-from .clients import Client, ask, get
-from .farms import LIMITS, TABLE, Balancer, Farm, ends_well, listen, section, server
+from .cases import PATIENCE, case, expect, expect_equal, wait_until
+from .clients import Client, ask, at_once, get
+from .farms import HOST, LIMITS, TABLE, Balancer, Farm, ends_well, listen, section, server
+from .hostile import DARKENED, darken
 from .origins import Gate, Handler, Talk, answers, response, sends
 
 A = response(b"a")
@@ -165,6 +170,48 @@ def a_server_that_breaks_off_without_a_byte_is_502(farm: Farm) -> None:
         talk.reset()
 
     served_by(farm, resets, own(502))
+
+
+@case
+def a_server_that_takes_a_connection_and_resets_it_at_once_is_502_and_one_that_refuses_it_503(farm: Farm) -> None:
+    port = farm.port()
+    origin = farm.origin(Talk.reset)
+    balancer = farm.start(listen(port, *LIMITS, server("a", origin)))
+    # The reset comes before the first write, during it, or behind it.
+    expect_equal("the answers", at_once(lambda _: [ask(port, GET) for _ in range(20)], range(10)), [[own(502)] * 20] * 10)
+    origin.close()
+    expect_equal("the answer where nobody listens", ask(port, GET), own(503))
+    balancer.wait_all_closed("web")
+    ends_well(balancer)
+
+
+def dials(port: int) -> int:
+    """How many connections to this port of the machine are begun and not made."""
+    return len(re.findall(rf"(?m)^ *\d+: \S+ [0-9A-F]{{8}}:{port:04X} 02 ", Path("/proc/net/tcp").read_text()))
+
+
+@case
+def a_connection_that_is_reset_before_anything_was_sent_is_502(farm: Farm) -> None:
+    dark, port = farm.stack.enter_context(socket.socket()), farm.port()
+    dark.bind((HOST, 0))
+    darken(farm.stack, dark)
+    dark.settimeout(PATIENCE)
+    at = int(dark.getsockname()[1])
+    balancer = farm.start(listen(port, *LIMITS, server("a", at)))
+    with Client(port) as client:
+        before = dials(at)
+        client.send(GET)
+        wait_until("the dial waits", lambda: dials(at) == before + 1)
+        # The balancer doesn't see that its connection is made before that is reset.
+        balancer.process.send_signal(signal.SIGSTOP)
+        dark.listen(2 * DARKENED)
+        for _ in range(DARKENED + 1):
+            Talk(dark.accept()[0]).reset()
+        balancer.process.send_signal(signal.SIGCONT)
+        expect_equal("the answer", client.read_to_end(), own(502))
+    balancer.wait_all_closed("web")
+    expect_equal("the events", balancer.events("web"), VISIT)
+    ends_well(balancer)
 
 
 @case

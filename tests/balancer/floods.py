@@ -6,12 +6,11 @@ import socket
 import threading
 import time
 
-from .answers import own
 from .cases import PATIENCE, case, expect, expect_equal, wait_until
 from .clients import Client, ask, at_once, is_refused
 from .farms import HOST, LIMITS, Farm, ends_well, listen, server
 from .hostile import attack, dripping
-from .origins import response
+from .origins import Talk, response
 
 A = response(b"a")
 GET = b"GET / HTTP/1.1\r\nHost: x\r\n\r\n"
@@ -34,10 +33,8 @@ def at_the_limit_of_open_files_no_request_is_refused_while_others_open_connectio
     finally:
         over.set()
         attacker.join(PATIENCE)
-    every = [answer for answers_of_one in answered for answer in answers_of_one]
-    # One that was long in sending its head may be taken for a silent one.
-    expect_equal("other answers than those of a server and 408", [it for it in every if it not in (A, own(408))], [])
-    expect(f"most are served: {every.count(A)} of 300", every.count(A) >= 270)
+    # A connection waits to be accepted for longer than its client takes to send a head, so none is taken for a silent one.
+    expect_equal("answers that are no server's", [it for it in sum(answered, []) if it != A], [])
     expect("no check failed", "is DOWN" not in balancer.errors())
     wait_until("descriptors are free again", lambda: balancer.descriptors() < 40)
     expect_equal("the answer to another client", ask(port, GET), A)
@@ -167,6 +164,34 @@ def a_stop_waits_for_a_slow_server_although_the_clients_limit_is_over(farm: Farm
         answer_next(late)
         expect_equal("the answer", client.read_to_end(), A)
     expect_equal("the status", balancer.wait().status, 0)
+
+
+@case
+def a_stop_waits_for_a_server_that_drips_no_longer_than_both_limits(farm: Farm) -> None:
+    ended, port = threading.Event(), farm.port()
+
+    def drips(talk: Talk) -> None:
+        talk.read_request()
+        talk.send(b"HTTP/1.1 200 OK\r\nContent-Length: 1000\r\n\r\n")
+        while not ended.wait(0.2):
+            talk.send(b"x")
+
+    limits = ("timeout client 1s", "timeout connect 20s", "timeout server 2s")
+    balancer = farm.start(listen(port, *limits, server("a", farm.origin(drips))))
+    try:
+        with Client(port) as client:
+            client.send(GET)
+            begin = time.monotonic()
+            while time.monotonic() - begin < 4:
+                expect("its server may drip for longer than the limits", len(client.read_bytes(1)) == 1)
+            expect_equal("the answer to `stop`", balancer.tell("stop"), "\n")
+            begin = time.monotonic()
+            at_end = balancer.wait()
+            took = time.monotonic() - begin
+    finally:
+        ended.set()
+    expect(f"it ends after both limits, and not before: {took:.1f} s", 2.5 <= took <= 7)
+    expect_equal("the end", (at_end.status, at_end.out), (0, "closed web events 4 rising yes\n"))
 
 
 @case

@@ -13,6 +13,10 @@ from .cases import PATIENCE
 from .clients import HOST, Client
 
 
+# How many connections keep a dark server busy, or wait for it.
+DARKENED = 4
+
+
 class Flag(Protocol):
     """An event, of a thread or of a process."""
 
@@ -67,7 +71,7 @@ def darken(stack: contextlib.ExitStack, listener: socket.socket) -> None:
     """From here on no connection to this server is taken, and none is refused."""
     listener.listen(0)
     # The system keeps one connection or two for a server that doesn't accept, and lets others wait.
-    for _ in range(4):
+    for _ in range(DARKENED):
         waiting = stack.enter_context(socket.socket())
         waiting.setblocking(False)
         with contextlib.suppress(BlockingIOError):

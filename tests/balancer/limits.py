@@ -180,6 +180,51 @@ def a_balancer_whose_complaints_nobody_takes_runs_on(farm: Farm) -> None:
     expect("the end is told", re.fullmatch(r"closed web events \d+ rising yes\n", out.read_text()) is not None)
 
 
+def full_pipe(farm: Farm) -> Path:
+    """A pipe that is full, and that nobody reads."""
+    path = farm.folder / "pipe"
+    os.mkfifo(path)
+    for way in (os.O_RDONLY, os.O_WRONLY):
+        end = os.open(path, way | os.O_NONBLOCK)
+        farm.stack.callback(os.close, end)
+    with contextlib.suppress(BlockingIOError):
+        while True:
+            os.write(end, bytes(4096))
+    return path
+
+
+@case
+def a_standard_error_that_nobody_reads_holds_up_neither_checks_nor_a_stop(farm: Farm) -> None:
+    port, at, out, err = farm.port(), farm.folder / "operators", farm.folder / "told", full_pipe(farm)
+    origin = farm.origin()
+    servers = (server("a", origin, "check inter 20ms fall 1 rise 1"), server("b", farm.origin()))
+    process = farm.spawn(f"global\n  stats socket {at}\n" + listen(port, *LIMITS, *servers), out, err)
+    wait_until("it listens", lambda: not is_refused(port))
+    # Each change of the server is a line.
+    for _ in range(10):
+        wait_until("a is up", lambda: A in [ask(port, GET) for _ in range(2)])
+        origin.close()
+        wait_until("a is down", lambda: [ask(port, GET) for _ in range(4)] == [B] * 4)
+        origin.open()
+    expect_equal("the answer to `stop`", ask_operator(at, b"stop\n"), b"\n")
+    expect_equal("the status", process.wait(PATIENCE), 0)
+    expect("the end is told", re.fullmatch(r"closed web events \d+ rising yes\n", out.read_text()) is not None)
+
+
+@case
+def where_standard_streams_are_closed_nothing_else_takes_their_places(farm: Farm) -> None:
+    port, at, out, err = farm.port(), farm.folder / "operators", farm.folder / "told", farm.folder / "complaints"
+    servers = (server("a", farm.port(), "check inter 20ms fall 1"), server("b", farm.origin()))
+    process = farm.spawn(f"global\n  stats socket {at}\n" + listen(port, *LIMITS, *servers), out, err, closed=True)
+    wait_until("it listens", lambda: not is_refused(port))
+    wait_until("a is down", lambda: [ask(port, GET) for _ in range(4)] == [A] * 4)
+    places = [os.readlink(f"/proc/{process.pid}/fd/{number}") for number in range(3)]
+    expect_equal("what stands in their places", places, ["/dev/null"] * 3)
+    expect_equal("the answer to `stop`", ask_operator(at, b"stop\n"), b"\n")
+    expect_equal("the status", process.wait(PATIENCE), 0)
+    expect_equal("what is told", (out.read_text(), err.read_text()), ("", ""))
+
+
 @case
 def a_client_is_known_by_its_address(farm: Farm) -> None:
     port, origin = farm.port(), farm.origin()

@@ -2,6 +2,8 @@
 
 from __future__ import annotations
 
+import threading
+
 from .answers import own
 from .cases import case, expect, expect_equal, wait_until
 from .clients import Client, at_once, get
@@ -41,8 +43,33 @@ def one_who_waits_longer_than_the_limit_for_a_full_server_gets_503(farm: Farm) -
 
 
 @case
-def for_one_that_resets_while_it_waits_for_a_full_server_nobody_is_dialled(farm: Farm) -> None:
+def one_that_resets_while_it_waits_for_a_full_server_leaves_the_queue(farm: Farm) -> None:
     balancer, port, gate, origin = full_server(farm, "timeout queue 20s")
+    with Client(port) as first:
+        first.send(GET)
+        gate.wait_for(1)
+        gone = Client(port)
+        gone.send(GET.replace(b"/ ", b"/gone "))
+        wait_until("it waits", lambda: count(balancer, "open a -> 30 Full") > 0)
+        gone.reset()
+        full = count(balancer, "open a -> 30 Full")
+        threading.Event().wait(1)
+        # One question may be under way, and one follows the pause after which the client is missed. There would be 20 in a second.
+        asked = count(balancer, "open a -> 30 Full") - full
+        expect(f"the server is asked at most twice more: {asked}", asked <= 2)
+        gate.open()
+        expect_equal("the first one's answer", first.read_to_end(), A)
+    expect_equal("what the server got", len(origin.requests(1)), 1)
+    balancer.wait_all_closed("web")
+    expect_equal("connections that were opened", count(balancer, "open a -> opened a"), 1)
+    ends_well(balancer)
+
+
+@case
+def without_any_limit_of_its_queue_one_that_reset_leaves_when_its_turn_comes(farm: Farm) -> None:
+    gate, port = Gate(answers(b"a")), farm.port()
+    origin = farm.origin(gate)
+    balancer = farm.start(listen(port, "timeout client 20s", "timeout server 20s", server("a", origin, "maxconn 1")))
     with Client(port) as first:
         first.send(GET)
         gate.wait_for(1)

@@ -13,7 +13,7 @@ from dataclasses import dataclass
 from pathlib import Path
 
 from . import (
-    checks, commands, crowds, faults, floods, forwarding, limits, machines, manual, operators, pins, queues, rules, slow, slowness, smuggling,
+    checks, commands, crowds, faults, floods, forwarding, keys, limits, machines, manual, operators, pins, queues, rules, slow, slowness, smuggling,
     soak, starts, supervised, waits, web_farm, wholes,
 )  # fmt: skip
 from .cases import CASES, Case, Failure
@@ -22,7 +22,7 @@ from .farms import Farm, end_all
 ROOT = Path(__file__).resolve().parent.parent.parent
 PROGRAM = ROOT / "crates" / "stickylb" / "out" / "stickylb"
 GROUPS = (
-    checks, commands, crowds, faults, floods, forwarding, limits, machines, manual, operators, pins, queues, rules, slowness, smuggling,
+    checks, commands, crowds, faults, floods, forwarding, keys, limits, machines, manual, operators, pins, queues, rules, slowness, smuggling,
     starts, supervised, waits, web_farm, wholes,
 )  # fmt: skip
 

@@ -57,6 +57,9 @@ class Desk:
     def server(self, name: str) -> Server:
         return next(server for server in self.servers if server.name == name)
 
+    def name(self, key: str, wanted: Sequence[str]) -> Name:
+        return key, tuple(server.name for server in self.servers if server.name in wanted)
+
     def permitted(self, want: Sequence[str]) -> list[str]:
         """The usable servers that the rules name, or all usable ones if none of those is usable."""
         names = self.usable_names()
@@ -68,7 +71,7 @@ class Desk:
         now = max(moment, self.latest)
         if key is None or self.table is None:
             return self.serve_loose(rules, now)
-        name = key, tuple(server.name for server in self.servers if server.name in rules)
+        name = self.name(key, rules)
         for pin in self.pins:
             if pin.name == name:
                 return self.serve_pin(pin, rules, now)
@@ -115,6 +118,40 @@ class Desk:
             return "80 NoServer"
         self.latest = now
         return f"served {self.take(picked)} loose"
+
+    # pins that are set and cleared
+
+    def named(self, name: Name) -> Optional[Pin]:
+        return next((pin for pin in self.pins if pin.name == name), None)
+
+    def set_pin(self, moment: int, name: Name, server: str, cost: int) -> str:
+        """The pin stands at the server, whatever the server's state is and however many pins it holds."""
+        now = max(moment, self.latest)
+        if self.table is None:
+            return "no table"
+        pin = self.named(name)
+        if pin is None:
+            return self.set_new(Pin(name, server, cost, now))
+        how = "kept" if pin.place == server else "moved"
+        pin.place, pin.use = server, now
+        self.latest = now
+        self.put_last(pin)
+        return f"pinned {server} {how}"
+
+    def set_new(self, pin: Pin) -> str:
+        is_full = len(self.pins) >= self.table.size
+        if is_full and self.table.nopurge:
+            return "60 TableFull"
+        self.pins = [*(self.purged() if is_full else self.pins), pin]
+        self.latest = pin.use
+        return f"pinned {pin.place} made"
+
+    def clear(self, name: Name) -> str:
+        pin = self.named(name)
+        if pin is None:
+            return "no pin"
+        self.pins.remove(pin)
+        return "cleared"
 
     # picks
 

@@ -89,8 +89,12 @@ class Script:
 
     def some_lines(self) -> Iterator[str]:
         kind = self.dice.roll(100)
-        if kind < 48:
+        if kind < 40:
             yield self.serve()
+        elif kind < 45:
+            yield self.set_pin()
+        elif kind < 48:
+            yield " ".join(["clear", one_of(self.dice, self.keys), *self.wanted()])
         elif kind < 55:
             yield f"open {self.name()}"
         elif kind < 61:
@@ -112,9 +116,20 @@ class Script:
     def serve(self) -> str:
         self.moment += 10 * self.dice.roll(4)
         key = "-" if is_one_in(self.dice, 12) else one_of(self.dice, self.keys)
-        rules = [self.name() for _ in range(max(0, self.dice.roll(16) - 12))]
+        wanted = self.wanted()
+        return self.with_cost(["serve", str(self.some_moment()), key, *wanted])
+
+    def set_pin(self) -> str:
+        self.moment += 10 * self.dice.roll(4)
+        words = ["set", str(self.some_moment()), one_of(self.dice, self.keys), self.name()]
+        return self.with_cost([*words, *self.wanted()])
+
+    def wanted(self) -> list[str]:
+        """No server in most cases, and up to three."""
+        return [self.name() for _ in range(max(0, self.dice.roll(16) - 12))]
+
+    def with_cost(self, words: Sequence[str]) -> str:
         cost = 1 + self.dice.roll(self.costs)
-        words = ["serve", str(self.some_moment()), key, *rules]
         return " ".join(words if cost == 1 else [*words, f"cost={cost}"])
 
     def name(self) -> str:

@@ -108,6 +108,24 @@ class MaintenanceKeepsResults(Desk):
                 server.health = ForcedHealth(server.health.rise, server.health.fall)
 
 
+class FullServersAreSetNoPins(Desk):
+    """a pin that is set at a server without room isn't made"""
+
+    def set_new(self, pin: Pin) -> str:
+        return super().set_new(pin) if pin.place in self.roomy(pin.name[1], self.pins) else "80 NoServer"
+
+
+class SetPinsHaveTheNewCost(Desk):
+    """a pin that is set has the cost of the event, also where it is in the table"""
+
+    def set_pin(self, moment: int, name: Name, server: str, cost: int) -> str:
+        reply = super().set_pin(moment, name, server, cost)
+        for pin in self.pins:
+            if pin.name == name:
+                pin.cost = cost
+        return reply
+
+
 PLANTED: Sequence[Callable[[Farm], Desk]] = [
     OldPlansAreInstalled,
     PinsExpireLate,
@@ -119,4 +137,6 @@ PLANTED: Sequence[Callable[[Farm], Desk]] = [
     LoadsForgetWeights,
     EachBackupIsUsable,
     MaintenanceKeepsResults,
+    FullServersAreSetNoPins,
+    SetPinsHaveTheNewCost,
 ]

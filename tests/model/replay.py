@@ -68,6 +68,10 @@ class Replay:
         match line.split(" "):
             case ["serve", moment, key, *words]:
                 return [self.serve(int(moment), key, words)]
+            case ["set", moment, key, server, *words] if moment.isdigit():
+                return [self.set_pin(int(moment), key, server, words)]
+            case ["clear", key, *wanted]:
+                return [self.clear(key, wanted)]
             case ["open", name]:
                 return [self.noted(line, self.desk.server(name).open)]
             case ["close", name]:
@@ -97,11 +101,19 @@ class Replay:
 
     def serve(self, moment: int, word: str, words: Sequence[str]) -> str:
         key = None if word == "-" else word[: self.key_length()]
-        rules = [name for name in words if not name.startswith("cost=")]
-        cost = next((int(name.removeprefix("cost=")) for name in words if name.startswith("cost=")), 1)
-        event = " ".join(["serve", str(moment), "-" if key is None else spelt(key), *rules])
-        event = event if cost == 1 else f"{event} cost={cost}"
+        rules, cost = asked(words)
+        event = with_cost(["serve", str(moment), "-" if key is None else spelt(key), *rules], cost)
         return self.noted(event, lambda: self.desk.serve(moment, key, rules, cost))
+
+    def set_pin(self, moment: int, word: str, server: str, words: Sequence[str]) -> str:
+        wanted, cost = asked(words)
+        name = self.desk.name(word[: self.key_length()], wanted)
+        event = with_cost(["set", str(moment), spelt(name[0]), server, *name[1]], cost)
+        return self.noted(event, lambda: self.desk.set_pin(moment, name, server, cost))
+
+    def clear(self, word: str, wanted: Sequence[str]) -> str:
+        name = self.desk.name(word[: self.key_length()], wanted)
+        return self.noted(" ".join(["clear", spelt(name[0]), *name[1]]), lambda: self.desk.clear(name))
 
     def key_length(self) -> int:
         if self.farm.table is None or self.farm.table.length is None:
@@ -192,6 +204,17 @@ def until_end(lines: Iterator[str]) -> Iterator[str]:
         yield line
         if line == "end":
             return
+
+
+def asked(words: Sequence[str]) -> tuple[list[str], int]:
+    """The servers that are named after a key, and the cost."""
+    names = [name for name in words if not name.startswith("cost=")]
+    costs = [int(word.removeprefix("cost=")) for word in words if word.startswith("cost=")]
+    return names, costs[0] if costs else 1
+
+
+def with_cost(words: Sequence[str], cost: int) -> str:
+    return " ".join(words if cost == 1 else [*words, f"cost={cost}"])
 
 
 def spelt(key: str) -> str:

@@ -22,6 +22,7 @@ NO_BACKEND = b"replay needs one backend\n"
 # The kinds of replies that come in a long run. In a script no event is refused in another way.
 KINDS = [
     "served kept", "served moved", "served made", "served loose", "80 NoServer",
+    "pinned kept", "pinned moved", "pinned made", "60 TableFull", "no table", "cleared", "no pin",
     "opened", "30 Full", "31 NotServing", "closed", "32 NotOpen", "expired none", "expired some",
     "check stays", "check up", "check down", "check ignored", "12 NotChecked", "done", "11 OutOfRange",
     "sheet", "installed, none moved", "installed, some moved", "70 Stale",
@@ -98,6 +99,8 @@ def kind_of(entry: Entry) -> str:
     match entry.reply.split(" "):
         case ["served", _, how]:
             return f"served {how}"
+        case ["pinned", _, how]:
+            return f"pinned {how}"
         case ["expired", number]:
             return "expired none" if number == "0" else "expired some"
         case ["installed", *words]:

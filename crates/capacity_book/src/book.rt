@@ -1,4 +1,4 @@
-ghost use Rattle.std.specs.Prelude.{◌≡◌, ◌+◌, ◌-◌, ◌<◌, true, length, IfOk, OnOk, OnErr};
+ghost use Rattle.std.specs.Prelude.{◌≡◌, ◌+◌, ◌-◌, ◌^◌, ◌<◌, true, length, IfOk, OnOk, OnErr};
 ghost use Rattle.std.specs.Result.{result_err};
 ghost use Rattle.capacity_book.specs.Book.{is_full};
 
@@ -73,6 +73,15 @@ impl Book {
     {
         let within_capacity = self.pins(server) < farm.capacity(server);
         prove!(within_capacity);
+        self.pins[server.index()] += 1;
+    }
+
+    /// Counts one pin more at a server of the book, whether or not it has room.
+    pub fn add(&mut self, server: ServerId)
+        requires is_there { server < length self.old.pins }
+        requires fits { pins_at self.old server + 1 < 2 ^ 32 }
+        ensures { self.new ≡ with_pins self.old server (pins_at self.old server + 1) }
+    {
         self.pins[server.index()] += 1;
     }
 

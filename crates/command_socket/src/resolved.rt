@@ -75,7 +75,7 @@ pub fn look_up(config: &Config, command: &Command) -> Result<Resolved, CommandFa
     }
 }
 
-fn command_fault(fault: FindFault) -> CommandFault
+pub(crate) fn command_fault(fault: FindFault) -> CommandFault
     ensures { result ≡ command_fault fault }
 {
     match fault {

@@ -3,7 +3,7 @@ use Rattle.std.proofs.Common.{◌≡◌, ℕ, ◌+◌, ◌<◌, Option, Result, 
 use Rattle.std.proofs.lemmas.List.{take_more}
 use Rattle.lb_types_counted.specs.Writers.{WriterState}
 use Rattle.lb_desk_ports.specs.Calls.{Grows}
-use Rattle.command_socket_words.specs.declared.command.Command.{Command}
+use Rattle.command_socket_words.specs.declared.socket_command.SocketCommand.{SocketCommand}
 use Rattle.command_socket_words.specs.declared.fault.CommandFault.{CommandFault}
 use Rattle.command_socket_serve.specs.Answers.{Answers, looked_up}
 use Rattle.command_socket_serve.specs.Consoles.{ConsoleView}
@@ -28,7 +28,7 @@ both_assoc a b c =
 
 module _ {D : Type 0} (seen : D → DeskSeen) (console : ConsoleView) where
   -- one command more
-  answered_more : (commands : List (Result Command CommandFault)) (said : Result Command CommandFault) (desks between used : List D)
+  answered_more : (commands : List (Result SocketCommand CommandFault)) (said : Result SocketCommand CommandFault) (desks between used : List D)
       (before last : Outcome) → AreAnswered seen console commands desks between before
       → Answers seen console (looked_up console.config said) between used last
       → AreAnswered seen console (commands ++ said ∷ []) desks used (both before (ended last))
@@ -49,7 +49,7 @@ module _ {D : Type 0} (seen : D → DeskSeen) (console : ConsoleView) where
 
   module _ {E : Type 0} (told : Option (List ℕ)) (out : WriterState) where
     -- one command more, and the end of its answer
-    pub does_more : (commands : List (Result Command CommandFault)) (i : ℕ) (said : Result Command CommandFault) (desks between used : List D)
+    pub does_more : (commands : List (Result SocketCommand CommandFault)) (i : ℕ) (said : Result SocketCommand CommandFault) (desks between used : List D)
         (told_mid told_new : Option (List ℕ)) (mid next new : WriterState) (printed answered sent : Result (Unit {0}) E)
         → i < length commands → said ≡ get_or commands i said
         → Does (AreAnswered seen console (take i commands) desks between) told told_mid out (Ok tt) mid printed
@@ -58,13 +58,13 @@ module _ {D : Type 0} (seen : D → DeskSeen) (console : ConsoleView) where
         → Does (AreAnswered seen console (take (i + 1) commands) desks used) told told_new out (Ok tt) new sent
     does_more commands i said desks between used told_mid told_new mid next new printed answered sent within here before last end =
         let longer : take (i + 1) commands ≡ take i commands ++ said ∷ [] =
-        take_more commands i said within ∙ ap (λ (c : Result Command CommandFault). take i commands ++ c ∷ []) (sym here) in
+        take_more commands i said within ∙ ap (λ (c : Result SocketCommand CommandFault). take i commands ++ c ∷ []) (sym here) in
         let told_all = grows_more told told_mid told_new before.outcome.changed (last.outcome.changed ++ []) before.told
         (subst (λ (ts : List ℕ). Grows told_mid told_new ts) (sym (append-nil last.outcome.changed)) last.told) in
         record {
           outcome = both before.outcome (ended last.outcome);
           is =
-              subst (λ (cs : List (Result Command CommandFault)). AreAnswered seen console cs desks used (both before.outcome (ended last.outcome)))
+              subst (λ (cs : List (Result SocketCommand CommandFault)). AreAnswered seen console cs desks used (both before.outcome (ended last.outcome)))
               (sym longer) (answered_more (take i commands) said desks between used before.outcome last.outcome before.is last.is);
           told = told_all;
           prints =

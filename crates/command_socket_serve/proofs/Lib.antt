@@ -1,4 +1,6 @@
 pub mod Answering
+pub mod Changing
+pub mod Keyed
 pub mod Placing
 pub mod Printings
 pub mod Reading

@@ -8,11 +8,15 @@ use Rattle.lb_config.specs.ConfigViews.{BackendView, ConfigView}
 use Rattle.lb_config.specs.Finds.{find_backend, find_server, found_backend, server_behind, with_server, server_at}
 use Rattle.lb_config.specs.declared.find.FindFault.{FindFault}
 use Rattle.command_socket.specs.Resolved.{found_as, resolved}
+use Rattle.command_socket.specs.SocketResolved.{plain, socket_resolved}
 use Rattle.command_socket.specs.declared.resolved.Resolved.{Resolved}
+use Rattle.command_socket.specs.declared.socket.SocketResolved.{SocketResolved}
+use Rattle.command_socket_words.specs.declared.socket_command.SocketCommand.{SocketCommand}
+use Rattle.command_socket_words.specs.declared.socket_command.SocketCommand.TheVariants as Asks
 use Rattle.command_socket_words.specs.declared.command.Command.{Command}
 use Rattle.command_socket_words.specs.declared.command.Command.TheVariants as Says
 use Rattle.command_socket_words.specs.declared.fault.CommandFault.{CommandFault}
-use Rattle.command_socket_serve.specs.Answers.{NamesOneOf, looked_up}
+use Rattle.command_socket_serve.specs.Answers.{NamesOneOf, NamesOneOfPlain, looked_up}
 
 -- what stands at a place within the list
 pub get_at : {A : Type 0} (xs : List A) (i : ℕ) (d : A) → i < length xs → slice_get xs i ≡ Some (get_or xs i d)
@@ -39,13 +43,13 @@ behind_within : (backends : List BackendView) (name : List ℕ) (place : Result 
 behind_within backends name (Ok place) within = with_within place (length backends) (server_at backends place name) within
 behind_within backends name (Err fault) within = tt
 
-as_within : {A : Type 0} (command : A → Resolved) (found : Result A FindFault) (P : A → Type 0) (Q : Resolved → Type 0)
+as_within : {A B : Type 0} (command : A → B) (found : Result A FindFault) (P : A → Type 0) (Q : B → Type 0)
     → ((a : A) → P a → Q (command a)) → IfOk found P → IfOk (found_as command found) Q
 as_within command (Ok a) P Q also p = also a p
 as_within command (Err fault) P Q also p = tt
 
 -- a command that was looked up names a backend of the configuration
-resolved_within : (config : ConfigView) (command : Command) → IfOk (resolved config command) (NamesOneOf (length config.backends))
+resolved_within : (config : ConfigView) (command : Command) → IfOk (resolved config command) (NamesOneOfPlain (length config.backends))
 unfolding resolved
 resolved_within config (Says.Set name setting) =
     as_within _ (find_server config.backends name.backend name.server) (λ found. found.0 < length config.backends) _ (λ found within. within)
@@ -58,12 +62,37 @@ resolved_within config (Says.Show what name) =
     (backend_within config.backends name)
 resolved_within config Says.Stop = tt
 
-looked_up_within : (config : ConfigView) (said : Result Command CommandFault) → IfOk (looked_up config said) (NamesOneOf (length config.backends))
-looked_up_within config (Ok command) = resolved_within config command
+plain_within : (count : ℕ) (found : Result Resolved CommandFault) → IfOk found (NamesOneOfPlain count) → IfOk (plain found) (NamesOneOf count)
+plain_within count (Ok found) within = within
+plain_within count (Err fault) within = tt
+
+-- and so does one of the command socket
+socket_within : (config : ConfigView) (command : SocketCommand) → IfOk (socket_resolved config command) (NamesOneOf (length config.backends))
+unfolding socket_resolved
+socket_within config (Asks.Plain command) =
+    plain_within (length config.backends) (resolved config command) (resolved_within config command)
+socket_within config (Asks.ShowKey name key) =
+    as_within _ (find_backend config.backends name) (λ found. found < length config.backends) _ (λ found within. within)
+    (backend_within config.backends name)
+socket_within config (Asks.ClearKey name key) =
+    as_within _ (find_backend config.backends name) (λ found. found < length config.backends) _ (λ found within. within)
+    (backend_within config.backends name)
+socket_within config (Asks.SetKey name key) =
+    as_within _ (find_server config.backends name.backend name.server) (λ found. found.0 < length config.backends) _ (λ found within. within)
+    (behind_within config.backends name.server (find_backend config.backends name.backend) (backend_within config.backends name.backend))
+socket_within config (Asks.ShowSheet name) =
+    as_within _ (find_backend config.backends name) (λ found. found < length config.backends) _ (λ found within. within)
+    (backend_within config.backends name)
+socket_within config (Asks.PlanDry name) =
+    as_within _ (find_backend config.backends name) (λ found. found < length config.backends) _ (λ found within. within)
+    (backend_within config.backends name)
+
+looked_up_within : (config : ConfigView) (said : Result SocketCommand CommandFault) → IfOk (looked_up config said) (NamesOneOf (length config.backends))
+looked_up_within config (Ok command) = socket_within config command
 looked_up_within config (Err fault) = tt
 
 -- the same of one that was found
-pub names_one : (config : ConfigView) (said : Result Command CommandFault) (command : Resolved) → looked_up config said ≡ Ok command
+pub names_one : (config : ConfigView) (said : Result SocketCommand CommandFault) (command : SocketResolved) → looked_up config said ≡ Ok command
     → NamesOneOf (length config.backends) command
 names_one config said command is =
-    subst (λ (r : Result Resolved CommandFault). IfOk r (NamesOneOf (length config.backends))) is (looked_up_within config said)
+    subst (λ (r : Result SocketResolved CommandFault). IfOk r (NamesOneOf (length config.backends))) is (looked_up_within config said)

@@ -3,20 +3,22 @@
 use Rattle.std.specs.Prelude.{◌≡◌, ◌⊎◌, ◌<◌, ⊤, ℕ, Bool, true, false, List, [], ◌∷◌, ◌++◌, Some, Result, Ok, Err, codes, slice_get, if◌then◌else◌}
 use Rattle.server_state.specs.declared.change.Change.{Change}
 use Rattle.command_socket_words.specs.Faults.{fault_text}
-use Rattle.command_socket_words.specs.declared.command.Command.{Command}
+use Rattle.command_socket_words.specs.declared.socket_command.SocketCommand.{SocketCommand}
 use Rattle.command_socket_words.specs.declared.command.Shown.{Shown}
 use Rattle.command_socket_words.specs.declared.command.Shown.TheVariants as Show
 use Rattle.command_socket_words.specs.declared.fault.CommandFault.{CommandFault}
-use Rattle.command_socket.specs.Resolved.{resolved}
+use Rattle.command_socket.specs.SocketResolved.{socket_resolved}
 use Rattle.command_socket.specs.declared.resolved.Resolved.{Resolved}
 use Rattle.command_socket.specs.declared.resolved.Resolved.TheVariants as Is
+use Rattle.command_socket.specs.declared.socket.SocketResolved.{SocketResolved}
+use Rattle.command_socket.specs.declared.socket.SocketResolved.TheVariants as Named
 use Rattle.lb_config.specs.ConfigViews.{ConfigView}
 use Rattle.lb_desk_model.specs.declared.entry.Entry.{Entry}
 use Rattle.lb_desk_model.specs.declared.reply.Reply.{Reply}
 use Rattle.lb_desk_model.specs.declared.reply.Reply.TheVariants.{Done}
 use Rattle.pin_set.specs.declared.table_pin.TablePin.{TablePin}
 use Rattle.lb_desk_ports.specs.declared.refused.Refused.{Refused}
-use Rattle.lb_desk_ports.specs.declared.refused.Refused.TheVariants.{Memory, Worn}
+use Rattle.lb_desk_ports.specs.declared.refused.Refused.TheVariants.{Memory}
 use Rattle.lb_desk_steer.specs.Steering.{ArePinsAfter, IsJournalAfter, commanding_entries}
 use Rattle.lb_desk_evacuate.specs.Evacuations.{Evacuates}
 use Rattle.lb_desk_evacuate.specs.declared.evacuating.Evacuation.{Evacuation}
@@ -29,11 +31,8 @@ use Rattle.lb_answers.specs.Tables.{table_text}
 use Rattle.command_socket_serve.specs.Consoles.{ConsoleView}
 use Rattle.command_socket_serve.specs.Desks.{AtDesk, DeskSeen}
 use Rattle.command_socket_serve.specs.Outcomes.{Outcome, no_outcome, only_text}
-
--- the line of a call that was refused
-abbrev pub refused_line : Refused → List ℕ
-refused_line Memory = codes "out of memory\n"
-refused_line Worn = codes "81 Worn\n"
+use Rattle.command_socket_serve.specs.Refusals.{refused_line}
+use Rattle.command_socket_serve.specs.Tasks.{Asks}
 
 -- ---- changes
 
@@ -94,31 +93,43 @@ pub record Shows (named : NamedBackend) (what : Shown) (old new : DeskSeen) (tex
 
 -- ---- a command
 
--- the command names a backend of these
-abbrev pub NamesOneOf : ℕ → Resolved → Type 0
-NamesOneOf count (Is.Change place change) = place < count
-NamesOneOf count (Is.Plan place) = place < count
-NamesOneOf count (Is.Show what place) = place < count
-NamesOneOf count Is.Stop = ⊤
+-- a command that scripts take too names a backend of these
+abbrev pub NamesOneOfPlain : ℕ → Resolved → Type 0
+NamesOneOfPlain count (Is.Change place change) = place < count
+NamesOneOfPlain count (Is.Plan place) = place < count
+NamesOneOfPlain count (Is.Show what place) = place < count
+NamesOneOfPlain count Is.Stop = ⊤
 
--- what a command comes to whose names are known
-abbrev pub CarriesOut : {D : Type 0} → (D → DeskSeen) → ConsoleView → Resolved → List D → List D → Outcome → Type 0
-CarriesOut seen console (Is.Change place change) desks used outcome =
+-- what one comes to whose names are known
+abbrev pub CarriesOutPlain : {D : Type 0} → (D → DeskSeen) → ConsoleView → Resolved → List D → List D → Outcome → Type 0
+CarriesOutPlain seen console (Is.Change place change) desks used outcome =
     (named : NamedBackend) × (slice_get console.names place ≡ Some named)
     × AtDesk seen place desks used (λ old new. Changes named place change old new outcome)
-CarriesOut seen console (Is.Plan place) desks used outcome =
+CarriesOutPlain seen console (Is.Plan place) desks used outcome =
     AtDesk seen place desks used (λ old new. Plans console.config.tries old new outcome.text) × (outcome.changed ≡ [])
-CarriesOut seen console (Is.Show what place) desks used outcome =
+CarriesOutPlain seen console (Is.Show what place) desks used outcome =
     (named : NamedBackend) × (slice_get console.names place ≡ Some named)
     × AtDesk seen place desks used (λ old new. Shows named what old new outcome.text) × (outcome.changed ≡ [])
-CarriesOut seen console Is.Stop desks used outcome = (outcome ≡ no_outcome) × (used ≡ desks)
+CarriesOutPlain seen console Is.Stop desks used outcome = (outcome ≡ no_outcome) × (used ≡ desks)
+
+-- the command names a backend of these
+abbrev pub NamesOneOf : ℕ → SocketResolved → Type 0
+NamesOneOf count (Named.Plain command) = NamesOneOfPlain count command
+NamesOneOf count (Named.Asked place task) = place < count
+
+-- what a command comes to whose names are known
+abbrev pub CarriesOut : {D : Type 0} → (D → DeskSeen) → ConsoleView → SocketResolved → List D → List D → Outcome → Type 0
+CarriesOut seen console (Named.Plain command) desks used outcome = CarriesOutPlain seen console command desks used outcome
+CarriesOut seen console (Named.Asked place task) desks used outcome =
+    (named : NamedBackend) × (slice_get console.names place ≡ Some named)
+    × AtDesk seen place desks used (λ old new. Asks named console.moment task old new outcome.text) × (outcome.changed ≡ [])
 
 -- the command with its backend and its server, or its fault
-abbrev pub looked_up : ConfigView → Result Command CommandFault → Result Resolved CommandFault
-looked_up config (Ok command) = resolved config command
+abbrev pub looked_up : ConfigView → Result SocketCommand CommandFault → Result SocketResolved CommandFault
+looked_up config (Ok command) = socket_resolved config command
 looked_up config (Err fault) = Err fault
 
 -- what a command comes to, or what is told in its place
-abbrev pub Answers : {D : Type 0} → (D → DeskSeen) → ConsoleView → Result Resolved CommandFault → List D → List D → Outcome → Type 0
+abbrev pub Answers : {D : Type 0} → (D → DeskSeen) → ConsoleView → Result SocketResolved CommandFault → List D → List D → Outcome → Type 0
 Answers seen console (Ok command) desks used outcome = CarriesOut seen console command desks used outcome
 Answers seen console (Err fault) desks used outcome = (outcome ≡ only_text (fault_text fault ++ codes "\n")) × (used ≡ desks)

@@ -3,17 +3,19 @@
 use Rattle.std.specs.Prelude.{◌≡◌, ◌⊎◌, ℕ, Bool, true, false, List, [], ◌∷◌, Option, IfSome, Result, Ok, Err, codes, take, if◌then◌else◌}
 use Rattle.std.specs.List.{list_any}
 use Rattle.std.specs.Io.BufRead.{ends_with_byte, strip_last, take_through}
-use Rattle.command_socket_words.specs.Commands.{commands_of}
-use Rattle.command_socket_words.specs.declared.command.Command.{Command}
+use Rattle.command_socket_words.specs.SocketCommands.{socket_commands_of}
+use Rattle.command_socket_words.specs.declared.socket_command.SocketCommand.{SocketCommand}
+use Rattle.command_socket_words.specs.declared.socket_command.SocketCommand.TheVariants.{Plain}
 use Rattle.command_socket_words.specs.declared.command.Command.TheVariants.{Stop}
 use Rattle.command_socket_words.specs.declared.fault.CommandFault.{CommandFault}
 use Rattle.command_socket_words.specs.declared.fault.CommandFault.TheVariants.{UnknownCommand}
 use Rattle.lb_desk_ports.specs.Calls.{Grows}
 use Rattle.lb_desk_ports.specs.declared.refused.Refused.TheVariants.{Memory}
-use Rattle.command_socket_serve.specs.Answers.{Answers, looked_up, refused_line}
+use Rattle.command_socket_serve.specs.Answers.{Answers, looked_up}
 use Rattle.command_socket_serve.specs.Consoles.{ConsoleView}
 use Rattle.command_socket_serve.specs.Desks.{DeskSeen}
 use Rattle.command_socket_serve.specs.Outcomes.{Outcome, both, no_outcome, only_text}
+use Rattle.command_socket_serve.specs.Refusals.{refused_line}
 use Rattle.command_socket_serve.specs.Requests.{is_request}
 use Rattle.command_socket_serve.specs.declared.connection.TheConstants.{MOST_READ}
 use Rattle.command_socket_serve.specs.declared.line.Next.{Next}
@@ -28,7 +30,7 @@ abbrev pub ended : Outcome → Outcome
 ended outcome = both outcome (only_text empty_line)
 
 -- the commands are answered one after another, each as the desks stand behind those before it
-abbrev pub AreAnswered : {D : Type 0} → (D → DeskSeen) → ConsoleView → List (Result Command CommandFault) → List D → List D → Outcome → Type 0
+abbrev pub AreAnswered : {D : Type 0} → (D → DeskSeen) → ConsoleView → List (Result SocketCommand CommandFault) → List D → List D → Outcome → Type 0
 AreAnswered seen console [] desks used outcome = (used ≡ desks) × (outcome ≡ no_outcome)
 AreAnswered {D} seen console (command ∷ more) desks used outcome =
     (between : List D) × (first : Outcome) × (rest : Outcome) × (outcome ≡ both (ended first) rest)
@@ -37,19 +39,19 @@ AreAnswered {D} seen console (command ∷ more) desks used outcome =
 
 -- ---- stop
 
-abbrev pub is_stop : Result Command CommandFault → Bool
-is_stop (Ok Stop) = true
+abbrev pub is_stop : Result SocketCommand CommandFault → Bool
+is_stop (Ok (Plain Stop)) = true
 is_stop _ = false
 
 -- whether the program goes on behind these commands
-abbrev pub next_behind : List (Result Command CommandFault) → Next
+abbrev pub next_behind : List (Result SocketCommand CommandFault) → Next
 next_behind commands = if list_any is_stop commands then next.Stop else next.GoOn
 
 -- ---- the line
 
 -- The commands of a line, and their faults. A line with which a request of HTTP begins is one fault, whatever stands in it
-abbrev pub asked_in : List ℕ → List (Result Command CommandFault)
-asked_in line = if is_request line then Err UnknownCommand ∷ [] else commands_of line
+abbrev pub asked_in : List ℕ → List (Result SocketCommand CommandFault)
+asked_in line = if is_request line then Err UnknownCommand ∷ [] else socket_commands_of line
 
 -- there is not memory enough for the line's commands, of which none is carried out
 pub record LacksMemory {D : Type 0} (desks used : List D) (outcome : Outcome) (following : Next) : Type 0 where

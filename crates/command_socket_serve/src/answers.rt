@@ -1,22 +1,20 @@
-ghost use Rattle.std.specs.Prelude.{◌≡◌, ◌++◌, Some, length, codes};
-ghost use Rattle.lb_answers.specs.Replies.{reply_text};
-ghost use Rattle.command_socket_serve.specs.Answers.{Answers, CarriesOut, Changes, NamesOneOf, Plans, is_done, looked_up};
+ghost use Rattle.std.specs.Prelude.{◌≡◌, length};
+ghost use Rattle.command_socket_serve.specs.Answers.{Answers, CarriesOut, CarriesOutPlain, Changes, NamesOneOf, NamesOneOfPlain, Plans, is_done, looked_up};
 ghost use Rattle.command_socket_serve.specs.Desks.{desk_seen};
 ghost use Rattle.command_socket_serve.specs.Lines.{ended};
 ghost use Rattle.command_socket_serve.specs.Outcomes.{Does, Says, PrintsOn};
-ghost use Rattle.command_socket_words.specs.Faults.{fault_text};
 
-use crate::printing::{Printed, print, print_refused};
+use crate::printing::{Printed, print, print_fault, print_refused, print_reply};
 use crate::shows::show;
+use crate::tasks::ask;
 use crate::{Console, Told};
-use command_socket::{Command, CommandFault, Resolved, look_up};
+use command_socket::{CommandFault, Resolved, SocketCommand, SocketResolved, look_up_socket};
 use lb_answers::{Answer, NamedBackend};
 use lb_config::Config;
 use lb_desk_evacuate::{Evacuation, evacuate};
 use lb_desk_model::Reply;
 use lb_desk_ports::Gate;
 use lb_desk_steer::Steer;
-use lb_types::ServerId;
 use lb_types_counted::Counted;
 use server_state::Change;
 use std::alloc::Global;
@@ -29,7 +27,7 @@ pub(crate) fn answer<R, S: Steer<R>, G: Gate<R>, T: Told, W: Write>(
     console: &Console<'_, G>,
     desks: &mut [S],
     told: &mut T,
-    said: &Result<Command, CommandFault>,
+    said: &Result<SocketCommand<'_>, CommandFault>,
     out: &mut Counted<W>,
     sent: Printed,
 ) -> Printed
@@ -45,28 +43,49 @@ pub(crate) fn answer<R, S: Steer<R>, G: Gate<R>, T: Told, W: Write>(
 }
 
 /// The command with its backend and its server, or its fault.
-fn look_up_said(
+fn look_up_said<'a>(
     config: &Config,
-    said: &Result<Command, CommandFault>,
-) -> Result<Resolved, CommandFault>
+    said: &Result<SocketCommand<'a>, CommandFault>,
+) -> Result<SocketResolved<'a>, CommandFault>
     ensures { result ≡ looked_up config.now said.now }
 {
     match said {
-        Ok(command) => look_up(config, command),
+        Ok(command) => look_up_socket(config, command),
         Err(fault) => Err(*fault),
     }
 }
 
-/// Prints why a command was not taken.
-#[tactic(auto, unfolding(lb_answers::specs::Answers::answer_text))]
-fn print_fault<W: Write>(out: &mut Counted<W>, sent: Printed, fault: CommandFault) -> Printed
-    ensures { PrintsOn out.old sent out.new result (fault_text fault ++ codes "\n") }
-{
-    print(out, sent, &Answer::CommandFault(fault))
-}
-
 /// Carries out a command whose names are known.
 fn carry_out<R, S: Steer<R>, G: Gate<R>, T: Told, W: Write>(
+    rt: &R,
+    alloc: Global,
+    console: &Console<'_, G>,
+    desks: &mut [S],
+    told: &mut T,
+    command: SocketResolved<'_>,
+    out: &mut Counted<W>,
+    sent: Printed,
+) -> Printed
+    requires seats { length desks.old ≡ length console.now.config.backends }
+    requires names { NamesOneOf (length console.now.config.backends) command }
+    ensures carries_out { Does (CarriesOut (desk_seen S.entries S.planned_now S.backend) console.now command.entry desks.old desks.new)
+        (T.told told.old) (T.told told.new) out.old sent out.new result }
+    ensures seats { length desks.new ≡ length desks.old }
+{
+    match command {
+        SocketResolved::Plain(command) => {
+            carry_out_plain(rt, alloc, console, desks, told, command, out, sent)
+        }
+        SocketResolved::Asked(place, task) => {
+            let named = &console.names()[place];
+            let desk = &mut desks[place];
+            ask(rt, alloc, named, console.moment(), desk, &task, out, sent)
+        }
+    }
+}
+
+/// Carries out a command that scripts take too, whose names are known.
+fn carry_out_plain<R, S: Steer<R>, G: Gate<R>, T: Told, W: Write>(
     rt: &R,
     alloc: Global,
     console: &Console<'_, G>,
@@ -77,8 +96,8 @@ fn carry_out<R, S: Steer<R>, G: Gate<R>, T: Told, W: Write>(
     sent: Printed,
 ) -> Printed
     requires seats { length desks.old ≡ length console.now.config.backends }
-    requires names { NamesOneOf (length console.now.config.backends) command }
-    ensures carries_out { Does (CarriesOut (desk_seen S.entries S.planned_now S.backend) console.now command desks.old desks.new)
+    requires names { NamesOneOfPlain (length console.now.config.backends) command }
+    ensures carries_out { Does (CarriesOutPlain (desk_seen S.entries S.planned_now S.backend) console.now command desks.old desks.new)
         (T.told told.old) (T.told told.new) out.old sent out.new result }
     ensures seats { length desks.new ≡ length desks.old }
 {
@@ -125,7 +144,7 @@ fn change<R, S: Steer<R>, T: Told, W: Write>(
         told.changed(place);
         return sent;
     }
-    print_reply(out, sent, named, asked.server, &reply)
+    print_reply(out, sent, named, Some(asked.server), &reply)
 }
 
 /// Whether the change is made.
@@ -133,20 +152,6 @@ fn is_done(reply: &Reply) -> bool
     ensures { result ≡ is_done reply.now }
 {
     matches!(reply, Reply::Done)
-}
-
-/// Prints why a change was not made.
-#[tactic(auto, unfolding(lb_answers::specs::Answers::answer_text))]
-fn print_reply<W: Write>(
-    out: &mut Counted<W>,
-    sent: Printed,
-    named: &NamedBackend<'_>,
-    server: ServerId,
-    reply: &Reply,
-) -> Printed
-    ensures { PrintsOn out.old sent out.new result (reply_text named.now.servers.now (Some server) reply.now ++ codes "\n") }
-{
-    print(out, sent, &Answer::Reply(named, Some(server), reply))
 }
 
 /// Moves pins off the servers of a backend, and prints what that came to.

@@ -1,9 +1,10 @@
 ghost use Rattle.std.specs.Prelude.{◌≡◌};
-ghost use Rattle.command_socket_serve.specs.Consoles.{IsConsole, console_of, table_of};
+ghost use Rattle.command_socket_serve.specs.Consoles.{IsConsole, console_at, console_of, table_of};
 
 use lb_answers::{NamedBackend, NamedTable};
 use lb_config::{BackendConfig, Config};
 use lb_desk_model::BackendServer;
+use lb_types::Moment;
 use std::marker::Model;
 
 /// What operators' commands are carried out with, wherever they come from.
@@ -12,6 +13,7 @@ pub struct Console<'a, G> {
     config: &'a Config,
     names: &'a [NamedBackend<'a>],
     gate: &'a G,
+    moment: Moment,
 }
 
 impl<'a, G> Model for Console<'a, G> {
@@ -19,23 +21,43 @@ impl<'a, G> Model for Console<'a, G> {
 
     ghost Value = { ConsoleView };
 
-    ghost view = { λ c. console_of c.config.now c.names.now };
+    ghost view = { λ c. console_of c.config.now c.names.now c.moment };
 
-    ghost invariant = { λ c. IsConsole (console_of c.config.now c.names.now) };
+    ghost invariant = { λ c. IsConsole (console_of c.config.now c.names.now c.moment) };
 }
 
 impl<'a, G> Console<'a, G> {
-    /// A console for this configuration, with a name for each of its backends, in their order. The gate is passed between planning and
-    /// each install.
+    /// A console for this configuration at moment 0, with a name for each of its backends, in their order. The gate is passed between
+    /// planning and each install.
     pub fn new(config: &'a Config, names: &'a [NamedBackend<'a>], gate: &'a G) -> Self
-        requires { IsConsole (console_of config.now names.now) }
-        ensures { result ≡ console_of config.now names.now }
+        requires { IsConsole (console_of config.now names.now 0) }
+        ensures { result ≡ console_of config.now names.now 0 }
     {
         Console {
             config,
             names,
             gate,
+            moment: Moment::from_millis(0),
         }
+    }
+
+    /// The same console at this moment, which is that of what commands do to pins.
+    pub fn at(&self, moment: Moment) -> Self
+        ensures { result ≡ console_at self.now moment }
+    {
+        Console {
+            config: self.config,
+            names: self.names,
+            gate: self.gate,
+            moment,
+        }
+    }
+
+    /// The moment of what commands do to pins.
+    pub fn moment(&self) -> Moment
+        ensures { result ≡ self.now.moment }
+    {
+        self.moment
     }
 
     /// The configuration.

@@ -10,9 +10,12 @@ mod answers;
 mod connection;
 mod console;
 mod line;
+mod pins;
 mod printing;
 mod request;
+mod sheets;
 mod shows;
+mod tasks;
 mod told;
 
 pub use connection::serve_connection;

@@ -9,7 +9,7 @@ use crate::answers::answer;
 use crate::printing::{Printed, print_end, print_refused};
 use crate::request::is_request;
 use crate::{Console, Told};
-use command_socket::{Command, CommandFault, read_commands};
+use command_socket::{Command, CommandFault, SocketCommand, read_socket_commands};
 use dual_cert_write::WriteFailed;
 use lb_desk_ports::{Gate, Refused};
 use lb_desk_steer::Steer;
@@ -74,11 +74,14 @@ pub fn answer_line<R, S: Steer<R>, G: Gate<R>, T: Told, W: Write>(
 }
 
 /// The commands of a line, with its fault in the place of each that can't be read.
-fn read_line(alloc: Global, line: &[u8]) -> Result<Vec<Result<Command, CommandFault>>, AllocError>
+fn read_line(
+    alloc: Global,
+    line: &[u8],
+) -> Result<Vec<Result<SocketCommand<'_>, CommandFault>>, AllocError>
     ensures { IfOk result (λ commands. commands.items ≡ asked_in line.now) }
 {
     if !is_request(line) {
-        return read_commands(alloc, line);
+        return read_socket_commands(alloc, line);
     }
     let mut commands = Vec::new(alloc);
     commands.push(Err(CommandFault::UnknownCommand))?;
@@ -86,7 +89,7 @@ fn read_line(alloc: Global, line: &[u8]) -> Result<Vec<Result<Command, CommandFa
 }
 
 /// Whether the program goes on after these commands.
-fn next_behind(commands: &[Result<Command, CommandFault>]) -> Next
+fn next_behind(commands: &[Result<SocketCommand<'_>, CommandFault>]) -> Next
     ensures { result ≡ next_behind commands.now }
 {
     if has_stop(commands) {
@@ -96,16 +99,16 @@ fn next_behind(commands: &[Result<Command, CommandFault>]) -> Next
     }
 }
 
-fn has_stop(commands: &[Result<Command, CommandFault>]) -> bool
+fn has_stop(commands: &[Result<SocketCommand<'_>, CommandFault>]) -> bool
     ensures { result ≡ list_any is_stop commands.now }
 {
     commands.iter().any(|said| is_stop(said))
 }
 
-fn is_stop(said: &Result<Command, CommandFault>) -> bool
+fn is_stop(said: &Result<SocketCommand<'_>, CommandFault>) -> bool
     ensures { result ≡ is_stop said.now }
 {
-    matches!(said, Ok(Command::Stop))
+    matches!(said, Ok(SocketCommand::Plain(Command::Stop)))
 }
 
 /// Answers the commands one after another.
@@ -115,7 +118,7 @@ fn answer_all<R, S: Steer<R>, G: Gate<R>, T: Told, W: Write>(
     console: &Console<'_, G>,
     desks: &mut [S],
     told: &mut T,
-    commands: &[Result<Command, CommandFault>],
+    commands: &[Result<SocketCommand<'_>, CommandFault>],
     out: &mut Counted<W>,
 ) -> Printed
     requires { length desks.old ≡ length console.now.config.backends }

@@ -1,13 +1,19 @@
 //! Printing answers one after another: once a write failed, nothing more is printed.
+ghost use Rattle.std.specs.Prelude.{◌++◌, codes};
 ghost use Rattle.lb_answers.specs.Answers.{answer_text};
-ghost use Rattle.command_socket_serve.specs.Answers.{refused_line};
+ghost use Rattle.lb_answers.specs.Replies.{reply_text};
+ghost use Rattle.command_socket_words.specs.Faults.{fault_text};
+ghost use Rattle.command_socket_serve.specs.Refusals.{refused_line};
 ghost use Rattle.command_socket_serve.specs.Lines.{empty_line};
 ghost use Rattle.command_socket_serve.specs.Outcomes.{PrintsOn};
 
+use command_socket::CommandFault;
 use dual_cert_write::WriteFailed;
 use dual_cert_write::sending::send;
-use lb_answers::{Answer, write_answer};
+use lb_answers::{Answer, NamedBackend, write_answer};
+use lb_desk_model::Reply;
 use lb_desk_ports::Refused;
+use lb_types::Place;
 use lb_types_counted::Counted;
 use std::io::Write;
 
@@ -35,6 +41,39 @@ pub(crate) fn print_refused<W: Write>(
         Refused::Memory => print(out, sent, &Answer::OutOfMemory),
         Refused::Worn => print(out, sent, &Answer::Worn),
     }
+}
+
+/// Prints why a command was not taken.
+#[tactic(auto, unfolding(lb_answers::specs::Answers::answer_text))]
+pub(crate) fn print_fault<W: Write>(
+    out: &mut Counted<W>,
+    sent: Printed,
+    fault: CommandFault,
+) -> Printed
+    ensures { PrintsOn out.old sent out.new result (fault_text fault ++ codes "\n") }
+{
+    print(out, sent, &Answer::CommandFault(fault))
+}
+
+/// Prints why a change was not made. The server is the one that the change names, if it names one.
+#[tactic(auto, unfolding(lb_answers::specs::Answers::answer_text))]
+pub(crate) fn print_reply<W: Write>(
+    out: &mut Counted<W>,
+    sent: Printed,
+    named: &NamedBackend<'_>,
+    server: Place,
+    reply: &Reply,
+) -> Printed
+    ensures { PrintsOn out.old sent out.new result (reply_text named.now.servers.now server reply.now ++ codes "\n") }
+{
+    print(out, sent, &Answer::Reply(named, server, reply))
+}
+
+/// Prints the text.
+pub(crate) fn print_text<W: Write>(out: &mut Counted<W>, sent: Printed, text: &[u8]) -> Printed
+    ensures { PrintsOn out.old sent out.new result text.now }
+{
+    send(out, sent, text)
 }
 
 /// Prints the empty line that ends an answer.

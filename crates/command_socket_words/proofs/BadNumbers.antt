@@ -12,7 +12,7 @@ use Rattle.command_socket_words.specs.declared.command.ServerName.{ServerName}
 use Rattle.command_socket_words.specs.declared.command.Shown.{Shown}
 use Rattle.command_socket_words.specs.declared.command.Shown.TheVariants as shown
 use Rattle.command_socket_words.specs.declared.command.Command.{Command}
-use Rattle.command_socket_words.specs.declared.command.Command.TheVariants.{Set, Plan, Show, Stop}
+use Rattle.command_socket_words.specs.declared.command.Command.TheVariants.{Set, Plan, Show}
 use Rattle.command_socket_words.specs.declared.fault.CommandFault.{CommandFault}
 use Rattle.command_socket_words.specs.declared.fault.CommandFault.TheVariants.{UnknownCommand, BadNumber}
 use Rattle.command_socket_words.specs.Faults.{◌>>=◌}

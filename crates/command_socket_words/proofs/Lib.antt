@@ -5,5 +5,7 @@ pub mod Lines
 pub mod Meant
 pub mod Readings
 pub mod Sayings
+pub mod SocketSayings
+pub mod SocketTexts
 pub mod Steps
 pub mod Texts

@@ -3,5 +3,7 @@ pub mod Faults
 pub mod Lines
 pub mod Meanings
 pub mod Settings
+pub mod SocketCommands
+pub mod SocketMeanings
 pub mod Values
 pub mod Words

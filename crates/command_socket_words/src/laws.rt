@@ -1,12 +1,15 @@
 ghost use Rattle.std.specs.Prelude.{◌≡◌, ◌≢◌, ◌≤◌, ℕ, List, [], ◌∷◌, ◌++◌, true, codes, map, length, Ok, Err};
 ghost use Rattle.std.specs.List.{list_all};
 ghost use Rattle.command_socket_words.specs.declared.command.Command.{Command};
+ghost use Rattle.command_socket_words.specs.declared.socket_command.SocketCommand.{SocketCommand};
 ghost use Rattle.command_socket_words.specs.declared.fault.CommandFault.{CommandFault};
 ghost use Rattle.command_socket_words.specs.declared.fault.CommandFault.TheVariants.{UnknownCommand, MissingWord, BadNumber};
 ghost use Rattle.command_socket_words.specs.declared.line.TheConstants.{LONGEST_LINE};
 ghost use Rattle.command_socket_words.specs.Commands.{command_of, commands_of};
 ghost use Rattle.command_socket_words.specs.Lines.{are_words, line_of};
 ghost use Rattle.command_socket_words.specs.Meanings.{IsCommand, Says};
+ghost use Rattle.command_socket_words.specs.SocketCommands.{socket_command_of};
+ghost use Rattle.command_socket_words.specs.SocketMeanings.{IsSocketCommand, SocketSays};
 ghost use Rattle.command_socket_words.specs.Values.{number_in};
 ghost use Rattle.command_socket_words.specs.Words.{Word};
 
@@ -16,6 +19,12 @@ pub fn words_say_a_command()
         → IsCommand command × Says words command }
     ensures only { (words : List Word) (command : Command) → IsCommand command
         → Says words command → command_of words ≡ Ok command }
+{}
+
+/// A command of the command socket is read where its words say it: `SocketSays` is the table of commands.
+pub fn words_say_a_socket_command()
+    ensures { (words : List Word) (command : SocketCommand) → IsSocketCommand command
+        → SocketSays words command → socket_command_of words ≡ Ok command }
 {}
 
 /// The fault that is reported is the first one from the left.

@@ -11,7 +11,7 @@ use server_state::AdminState;
 use std::alloc::{AllocError, Global};
 
 /// How many bytes a line may have, its end not counted.
-const LONGEST_LINE: usize = 4096;
+pub(crate) const LONGEST_LINE: usize = 4096;
 
 /// The commands of a line, which is given without its end. For each command that can't be read it gives the fault
 /// instead.
@@ -53,12 +53,13 @@ fn read_text(text: &[u8]) -> Option<Result<Command, CommandFault>>
 }
 
 /// The command whose words these are: the first one, and those that follow.
-#[tactic(auto, unfolding(crate::specs::Commands::command_of))]
-fn read_command(first: &[u8], words: &mut Words) -> Result<Command, CommandFault>
+#[tactic(auto, unfolding(crate::specs::Commands::command_of, crate::specs::Commands::set_of, crate::specs::Commands::show_of))]
+pub(crate) fn read_command(first: &[u8], words: &mut Words) -> Result<Command, CommandFault>
     ensures { result ≡ command_of (first.now ∷ words.old) }
 {
     if is(first, b"set") {
-        return read_set(words);
+        let what = words.due_word()?;
+        return read_set(what, words);
     }
     if is(first, b"enable") {
         return read_switch(AdminState::Ready, words);
@@ -70,7 +71,8 @@ fn read_command(first: &[u8], words: &mut Words) -> Result<Command, CommandFault
         return read_plan(words);
     }
     if is(first, b"show") {
-        return read_show(words);
+        let what = words.due_word()?;
+        return read_show(what, words);
     }
     if is(first, b"stop") {
         words.end()?;
@@ -92,12 +94,12 @@ fn read_plan(words: &mut Words) -> Result<Command, CommandFault>
     Ok(Command::Plan(backend))
 }
 
-/// What follows `show`.
+/// What `show` and these words say: the first one, and those that follow.
 #[tactic(auto, unfolding(crate::specs::Commands::show_of, crate::specs::Words::last))]
-fn read_show(words: &mut Words) -> Result<Command, CommandFault>
-    ensures { result ≡ show_of words.old }
+pub(crate) fn read_show(what: &[u8], words: &mut Words) -> Result<Command, CommandFault>
+    ensures { result ≡ show_of (what.now ∷ words.old) }
 {
-    let shown = read_shown(words.due_word()?)?;
+    let shown = read_shown(what)?;
     let backend = read_name(words.due_word()?)?;
     words.end()?;
     Ok(Command::Show(shown, backend))

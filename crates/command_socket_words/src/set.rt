@@ -1,4 +1,4 @@
-ghost use Rattle.std.specs.Prelude.{◌≡◌};
+ghost use Rattle.std.specs.Prelude.{◌≡◌, ◌∷◌};
 ghost use Rattle.command_socket_words.specs.Commands.{switch_of, numbered_of, server_numbered_of, set_server_of, set_of};
 
 use crate::setting::read_setting;
@@ -52,12 +52,11 @@ fn read_set_server(words: &mut Words) -> Result<Command, CommandFault>
     Ok(Command::Set(server, setting))
 }
 
-/// What follows `set`.
+/// What `set` and these words say: the first one, and those that follow.
 #[tactic(auto, unfolding(crate::specs::Commands::set_of))]
-pub(crate) fn read_set(words: &mut Words) -> Result<Command, CommandFault>
-    ensures { result ≡ set_of words.old }
+pub(crate) fn read_set(what: &[u8], words: &mut Words) -> Result<Command, CommandFault>
+    ensures { result ≡ set_of (what.now ∷ words.old) }
 {
-    let what = words.due_word()?;
     if is(what, b"server") {
         return read_set_server(words);
     }

@@ -20,8 +20,8 @@ pub trait Dialer<R> {
     ghost failures: { Self → ℕ };
 
     /// Connects to the endpoint, and writes a beginning of these bytes as soon as that can be. It answers how many the connection has
-    /// taken, which may be none; nothing else was written, nothing was read, and nothing has failed. A connection that breaks
-    /// before it takes any is none. The fault says whether the limit to connect ran out.
+    /// taken, which may be none; nothing else was written, nothing was read, and nothing has failed. One that broke before it took
+    /// any has taken none, and its next write fails. The fault says whether the limit to connect ran out.
     fn dial(
         &mut self,
         rt: &R,

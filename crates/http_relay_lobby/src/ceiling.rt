@@ -2,8 +2,8 @@ use http_relay_listen::{OtherFiles, most_open_files};
 use std::net::OpenStream;
 use std::os::fd::AsRawFd;
 
-/// The end of the descriptors that clients' connections may have, so that dials and checks always find one. The system gives each
-/// connection the lowest free descriptor.
+/// The end of the descriptors that clients' connections may have, so that dials and checks find one, if the limit of open files
+/// leaves room for them (`OtherFiles::end_of_clients`). The system gives each connection the lowest free descriptor.
 #[derive(Clone, Copy, Debug)]
 pub(crate) struct Ceiling {
     files: OtherFiles,

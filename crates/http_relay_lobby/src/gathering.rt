@@ -45,7 +45,7 @@ struct Watch {
 /// `rules.silence`, which each byte begins again. One that was silent for longer goes to the worker as a read that timed out. While
 /// the lane is full nothing is accepted, and heads that become whole are kept.
 ///
-/// So many descriptors stay free that dials and checks always find one, as `rules.files` says. If a client's connection would take one
+/// So many descriptors stay free that dials and checks find one, as `rules.files` says. If a client's connection would take one
 /// of these, the listener with the most guests answers the one silent for longest as one that timed out, and closes it at once. If there
 /// is none at all, nothing more is accepted until a connection ends.
 ///

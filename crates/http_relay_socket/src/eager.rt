@@ -1,6 +1,7 @@
 use std::io;
 use std::io::{ErrorKind, Read, Write};
 use std::net::OpenStream;
+use std::os::fd::{AsRawFd, RawFd};
 
 /// A stream that came set not to block. A call is made at once, which costs one system call. The first that would have to wait sets
 /// the stream to block; it and those after it wait, under the limits that the stream has. So nothing is set for a peer that takes all
@@ -47,6 +48,12 @@ fn had_to_wait<T>(answer: &io::Result<T>) -> bool {
     match answer {
         Err(error) => error.kind() == ErrorKind::WouldBlock,
         Ok(_) => false,
+    }
+}
+
+impl<S: AsRawFd> AsRawFd for EagerStream<S> {
+    fn as_raw_fd(&self) -> RawFd {
+        self.stream.as_raw_fd()
     }
 }
 

@@ -47,6 +47,16 @@ impl<'a, W: Wire> FrontedWire<'a, W> {
     {
         &self.wire
     }
+
+    /// The wrapped wire, without the bytes that were read before.
+    pub fn into_wire(self) -> W
+        ensures unread { (front : List ℕ)
+            × ((⟦<FrontedWire<'a, W> as Wire>⟧.reading self.entry).unread ≡ prepend_known front (W.reading result).unread) }
+        ensures written { W.written result ≡ ⟦<FrontedWire<'a, W> as Wire>⟧.written self.entry }
+    {
+        let FrontedWire { wire, .. } = self;
+        wire
+    }
 }
 
 // Takes the next bytes into the front of the buffer: those that were read before while there are any, and then the wire's.

@@ -11,7 +11,8 @@ use std::{thread, time};
 pub struct SystemClock<'a> {
     start: Instant,
     last: Moment,
-    /// The client for whose server is waited in a pause, and which is looked at after it.
+    /// The client for whose server is waited in a pause, and which is looked at after it. Once it is gone no wait is of use, so all time
+    /// has passed.
     attended: Option<&'a Attended>,
 }
 
@@ -25,7 +26,8 @@ impl<'a> SystemClock<'a> {
         }
     }
 
-    /// The same, which looks after each pause whether the client that is attended to has left.
+    /// The same, which looks after each pause whether the client that is attended to has left. From there on, until the next client's
+    /// request begins, the moment is the last one that there is.
     pub fn beside(start: Instant, clients: Option<&'a Attended>) -> Self {
         SystemClock {
             start,
@@ -41,6 +43,11 @@ impl<'a, R: time::Clock> Clock<R> for SystemClock<'a> {
     ghost pauses = { λ clock. None };
 
     fn now(&mut self, rt: &R) -> Moment {
+        if let Some(client) = self.attended
+            && client.was_gone()
+        {
+            return Moment::from_millis(u64::MAX);
+        }
         if let Ok(now) = Instant::now(rt) {
             let millis = now.duration_since(self.start).as_millis();
             self.last = Moment::from_millis(u64::try_from(millis).unwrap_or(u64::MAX));

@@ -1,4 +1,4 @@
-ghost use Rattle.std.specs.Prelude.{◌≤◌, length, IfOk};
+ghost use Rattle.std.specs.Prelude.{◌≡◌, ◌≤◌, length, IfOk};
 
 use crate::Attended;
 use crate::attended::{has_left, nobody};
@@ -55,8 +55,8 @@ pub struct ServerStream<'a> {
 
 impl<'a> ServerStream<'a> {
     /// A connection to the server at this address under these limits, and how many of the first bytes it has taken. Where the server
-    /// is on this machine that is as many as a write takes. It is for this client's request. The error is the system's,
-    /// `TimedOut`, or `ConnectionAborted` where the client left.
+    /// is on this machine that is as many as a write takes, and none if the connection has broken by then. It is for this client's
+    /// request. The error is the system's, `TimedOut`, or `ConnectionAborted` where the client left.
     pub fn connect<R: Net>(
         rt: &R,
         address: SocketAddr,
@@ -174,7 +174,8 @@ impl<'a> Write for ServerStream<'a> {
 
 // Writes a beginning of these bytes to a socket that is being connected, and answers how many it took. The write assumes that the
 // dial has ended, which spares a call that waits for that. On one machine the end comes before the system reports that the dial is
-// under way. Where it hasn't come, nothing is taken, and it is waited for.
+// under way. Where it hasn't come, nothing is taken, and it is waited for. A connection that was made and broke before it took a byte
+// has taken none, and its next write fails. The error is that of one that wasn't made.
 fn begin(
     stream: &mut TcpStream,
     limit: Option<u32>,
@@ -186,14 +187,25 @@ fn begin(
     if !at_once.is_empty() {
         let answer = stream.write(at_once);
         if !had_to_wait(&answer) {
-            return answer;
+            return answer.or_else(unless_made);
         }
     }
     if has_failed(wait_for(stream, POLLOUT, limit, client)?) {
         let error = stream.take_error()?;
-        return Err(error.unwrap_or(ErrorKind::NotConnected.into()));
+        return unless_made(error.unwrap_or(ErrorKind::NotConnected.into()));
     }
     Ok(0)
+}
+
+// None taken, where the error is that of a connection that was made and broke: the system reports a dial that a server refused by
+// another one.
+fn unless_made(error: io::Error) -> io::Result<usize>
+    ensures { IfOk result (λ count. count ≡ 0) }
+{
+    match error.kind() {
+        ErrorKind::ConnectionReset | ErrorKind::BrokenPipe => Ok(0),
+        _ => Err(error),
+    }
 }
 
 // Whether the call ended because it would have had to wait.

@@ -74,7 +74,11 @@ impl<'a> SocketDialer<'a> {
             return Err(ErrorKind::ConnectionAborted.into());
         }
         let address = SocketAddr::V4(SocketAddrV4::new(endpoint.address, endpoint.port));
-        ServerStream::connect(rt, address, limits, self.attended, first)
+        let connected = ServerStream::connect(rt, address, limits, self.attended, first)?;
+        if let Some(client) = self.attended {
+            client.note_server(limits.transfer);
+        }
+        Ok(connected)
     }
 
     /// Closes the connection that was given back last, if it isn't closed yet. That costs two system calls.

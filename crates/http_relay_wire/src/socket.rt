@@ -5,6 +5,7 @@ use crate::fault::{FaultCounts, WireFault};
 use crate::wire::Wire;
 use std::io;
 use std::io::{ErrorKind, Read, Write};
+use std::os::fd::{AsRawFd, RawFd};
 
 /// How many reads a socket's wire allows.
 const MOST_READS: u64 = 1 << 62;
@@ -35,6 +36,20 @@ impl<S: Read + Write> SocketWire<S> {
             reads_left: MOST_READS,
             faults: FaultCounts::default(),
         }
+    }
+}
+
+impl<S> SocketWire<S> {
+    /// The stream. What the wire knows of it ends here.
+    pub fn into_stream(self) -> S {
+        let SocketWire { stream, .. } = self;
+        stream
+    }
+}
+
+impl<S: AsRawFd> AsRawFd for SocketWire<S> {
+    fn as_raw_fd(&self) -> RawFd {
+        self.stream.as_raw_fd()
     }
 }
 

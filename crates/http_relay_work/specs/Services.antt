@@ -26,14 +26,15 @@ pub record ServesOnce {P S : Type 0} (seen : P → PortSeen) (server_of : S → 
   pub sent : before.client.reading.unread ≡ text
   pub serves : Serves seen server_of routes source ports used before after outcome
 
--- a request was served by what the configuration says at its frontend
-abbrev pub ServesAtFrontend : {P S : Type 0} → (P → PortSeen) → (S → ℕ) → ConfigView → List P → List P → Service → Type 0
-ServesAtFrontend seen server_of config ports used service =
-    (routes : FrontendRoutesView) × (text : Option (List ℕ)) × (routes_at config service.frontend ≡ Some routes)
+-- a request was served by what the configuration says at its frontend, over a connection whose client sends this text, where that is known
+abbrev pub ServesAtFrontend : {P S : Type 0} → (P → PortSeen) → (S → ℕ) → ConfigView → Option (List ℕ) → List P → List P → Service → Type 0
+ServesAtFrontend seen server_of config text ports used service =
+    (routes : FrontendRoutesView) × (routes_at config service.frontend ≡ Some routes)
     × ServesOnce seen server_of (routes_of routes) service.source text ports used service.outcome
 
--- these requests were served, the last one first, and nothing else was done at the ports
+-- these requests were served, the last one first, whatever their clients sent, and nothing else was done at the ports
 abbrev pub ServesInTurn : {P S : Type 0} → (P → PortSeen) → (S → ℕ) → ConfigView → List P → List P → List Service → Type 0
 ServesInTurn seen server_of config ports used [] = used ≡ ports
 ServesInTurn {P = P} seen server_of config ports used (last ∷ earlier) =
-    (before : List P) × ServesInTurn seen server_of config ports before earlier × ServesAtFrontend seen server_of config before used last
+    (before : List P) × (text : Option (List ℕ)) × ServesInTurn seen server_of config ports before earlier
+    × ServesAtFrontend seen server_of config text before used last

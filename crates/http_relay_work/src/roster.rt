@@ -72,8 +72,8 @@ impl Roster {
         }
     }
 
-    /// Cuts off the clients that alone hold up an end for longer than they may, at this moment of the end in milliseconds. Looks at rising
-    /// moments from 1 on find them. A look costs a few atomic steps for each worker.
+    /// Cuts off the clients that hold up an end for longer than they may, alone or with their servers, at this moment of the end in
+    /// milliseconds. Looks at rising moments from 1 on find them. A look costs a few atomic steps for each worker.
     pub fn cut_off_late<R: Wait>(&self, rt: &R, now: u64) {
         for client in &self.clients {
             client.cut_off_late(rt, now);

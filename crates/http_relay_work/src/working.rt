@@ -3,7 +3,7 @@ ghost use Rattle.http_relay_serve.specs.Serves.{port_seen};
 ghost use Rattle.http_relay_work.specs.Services.{Service, ServesInTurn};
 
 use crate::waiting::next_arrival;
-use crate::{Leavers, Post, Relay, serve_arrival};
+use crate::{Leavers, Post, Relay, end_served, over_wire, serve_arrival};
 use http_relay_head::HEAD_ROOM;
 use http_relay_lobby::WaitingLine;
 use http_relay_serve::Worker;
@@ -59,16 +59,18 @@ where
             break;
         };
         post.begin();
-        serve_arrival(
+        let served = serve_arrival(
             rt,
             alloc,
             relay,
             &mut worker,
-            arrival,
+            over_wire(arrival),
             &mut ports,
             &mut room,
-            &mut leavers,
         );
+        if let Some(served) = served {
+            end_served(rt, &mut worker, served, &mut leavers);
+        }
         post.end();
     }
     ports

@@ -6,17 +6,18 @@ use Rattle.lb_types_counted.specs.Writers.{WriterState, AppendsFront, Rises}
 use Rattle.dual_cert_text.specs.Faults.{fault_text}
 use Rattle.command_socket_words.specs.Faults.{fault_text as command_fault_text}
 use Rattle.lb_answers.specs.declared.answer.Answer.{Answer}
-use Rattle.lb_answers.specs.declared.answer.Answer.TheVariants.{Reply, CommandFault, TextFault, Table, Plan, Journal, Evacuated, AllStale, OutOfMemory, Worn}
+use Rattle.lb_answers.specs.declared.answer.Answer.TheVariants.{Reply, CommandFault, TextFault, Table, Rows, Plan, Journal, Evacuated, AllStale, OutOfMemory, Worn}
 use Rattle.lb_answers.specs.Journals.{journal_text, plan_text}
 use Rattle.lb_answers.specs.Replies.{reply_text}
 use Rattle.lb_answers.specs.Scores.{score_text}
-use Rattle.lb_answers.specs.Tables.{table_text}
+use Rattle.lb_answers.specs.Tables.{rows_text, table_text}
 
 unfoldable pub answer_text : Answer → List ℕ
 answer_text (Reply backend asked reply) = reply_text backend.now.servers.now asked reply.now ++ codes "\n"
 answer_text (CommandFault fault) = command_fault_text fault ++ codes "\n"
 answer_text (TextFault fault) = fault_text fault ++ codes "\n"
 answer_text (Table backend pins) = table_text backend.now.name backend.now.servers.now backend.now.table pins.now
+answer_text (Rows backend used pins) = rows_text backend.now.name backend.now.servers.now backend.now.table used pins.now
 answer_text (Plan plan) = plan_text (option_copied plan)
 answer_text (Journal backend first entries) = journal_text backend.now.name backend.now.servers.now first entries.now
 answer_text (Evacuated score) = score_text score ++ codes "\n"

@@ -8,9 +8,12 @@ use Rattle.server_state.specs.declared.change.Setting.{Setting}
 use Rattle.server_state.specs.declared.change.Setting.TheVariants.{Admin, Health, Weight, MaxConnections, MaxPins}
 use Rattle.lb_desk_model.specs.declared.backend.BackendServer.{BackendServer}
 use Rattle.lb_desk_model.specs.declared.event.Event.{Event}
-use Rattle.lb_desk_model.specs.declared.event.Event.TheVariants.{Serve, Open, Close, Expire, Check, Command, Snapshot, Install}
+use Rattle.lb_desk_model.specs.declared.event.Event.TheVariants.{Serve, Set, Clear, Open, Close, Expire, Check, Command, Snapshot, Install}
 use Rattle.lb_desk_model.specs.declared.event.Request.{Request}
-use Rattle.lb_answers.specs.Keys.{asked_key}
+use Rattle.lb_desk_model.specs.declared.event.SetPin.{SetPin}
+use Rattle.lb_types.specs.Servers.{has, members}
+use Rattle.pin_set.specs.declared.pin.PinId.{PinId}
+use Rattle.lb_answers.specs.Keys.{asked_key, key_word}
 use Rattle.lb_answers.specs.Names.{labelled, server_word}
 
 -- a cost other than 1
@@ -25,6 +28,22 @@ abbrev pub request_text : List BackendServer → Request → List ℕ
 request_text servers request =
     labelled (codes "serve ") request.moment ++ codes " " ++ asked_key request.key ++ rules_text servers request.rules
     ++ cost_text request.cost
+
+-- each server of the set behind a space, in the configuration's order
+abbrev pub wanted_text : List BackendServer → ℕ → List ℕ
+wanted_text servers want = rules_text servers (members want)
+
+-- the server behind a space, where the set has it
+abbrev pub wanted_server : List BackendServer → ℕ → ℕ → List ℕ
+wanted_server servers want server = if has want server then 32 ∷ server_word servers server else []
+
+abbrev pub set_text : List BackendServer → SetPin → List ℕ
+set_text servers set =
+    labelled (codes "set ") set.moment ++ codes " " ++ key_word set.name.key ++ codes " " ++ server_word servers set.server
+    ++ wanted_text servers set.name.want ++ cost_text set.cost
+
+abbrev pub clear_text : List BackendServer → PinId → List ℕ
+clear_text servers name = codes "clear " ++ key_word name.key ++ wanted_text servers name.want
 
 abbrev pub result_word : Bool → List ℕ
 result_word true = codes " ok"
@@ -62,6 +81,8 @@ command_text backend servers change =
 
 unfoldable pub event_text : List ℕ → List BackendServer → Event → List ℕ
 event_text backend servers (Serve request) = request_text servers request
+event_text backend servers (Set set) = set_text servers set
+event_text backend servers (Clear name) = clear_text servers name
 event_text backend servers (Open server) = codes "open " ++ server_word servers server
 event_text backend servers (Close server) = codes "close " ++ server_word servers server
 event_text backend servers (Expire moment) = labelled (codes "expire ") moment
@@ -72,6 +93,7 @@ event_text backend servers (Install plan) = labelled (codes "install version ") 
 
 -- the server that the event names, if it names one. A request may name several, and is answered with its server
 abbrev pub asked_server : Event → Option ℕ
+asked_server (Set set) = Some set.server
 asked_server (Open server) = Some server
 asked_server (Close server) = Some server
 asked_server (Check server succeeded) = Some server

@@ -40,7 +40,11 @@ table_heading backend table used =
     codes "# table " ++ backend ++ codes " type " ++ type_word table.key_type ++ labelled (codes " size ") table.size
     ++ labelled (codes " used ") used ++ codes "\n"
 
--- the pins in their order, or that there is no table
+-- some pins of a table that has so many, in their order, or that there is no table
+abbrev pub rows_text : List ℕ → List BackendServer → Option NamedTable → ℕ → List TablePin → List ℕ
+rows_text backend servers None used pins = codes "no table\n"
+rows_text backend servers (Some table) used pins = table_heading backend table used ++ flat_map (λ p. pin_line servers p) pins
+
+-- all pins of the table
 abbrev pub table_text : List ℕ → List BackendServer → Option NamedTable → List TablePin → List ℕ
-table_text backend servers None pins = codes "no table\n"
-table_text backend servers (Some table) pins = table_heading backend table (length pins) ++ flat_map (λ p. pin_line servers p) pins
+table_text backend servers table pins = rows_text backend servers table (length pins) pins

@@ -12,7 +12,7 @@ use crate::named_backend::NamedBackend;
 use crate::names::send_labelled;
 use crate::replies::send_reply;
 use crate::scores::send_score;
-use crate::tables::send_table;
+use crate::tables::{send_rows, send_table};
 use command_socket_words::CommandFault;
 use dual_cert_plan::Plan;
 use dual_cert_text::TextFault;
@@ -35,6 +35,8 @@ pub enum Answer<'a> {
     TextFault(TextFault),
     /// To `show table`: the backend's pins, in order of last use.
     Table(&'a NamedBackend<'a>, &'a [TablePin]),
+    /// To `show table` of a key: those of the backend's pins that have it, in order of last use, and how many pins the table has.
+    Rows(&'a NamedBackend<'a>, usize, &'a [TablePin]),
     /// To `show plan`: the plan that was installed last, if the journal still keeps it.
     Plan(Option<&'a Plan>),
     /// To `show journal`: the backend's entries in order, and the number of the first of them. A journal of two slices has two
@@ -82,6 +84,7 @@ fn send_answer<W: Write>(answer: &Answer<'_>, out: &mut Counted<W>) -> Sent
             send(out, sent, b"\n")
         }
         Answer::Table(backend, pins) => send_table(out, Ok(()), backend, pins),
+        Answer::Rows(backend, used, pins) => send_rows(out, Ok(()), backend, *used, pins),
         Answer::Plan(plan) => send_plan(out, *plan),
         Answer::Journal(backend, first, entries) => {
             send_journal(out, Ok(()), backend, *first, entries)

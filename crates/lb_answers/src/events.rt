@@ -1,25 +1,31 @@
 //! Events of a backend, in the words of a script.
 ghost use Rattle.std.specs.Prelude.{◌≡◌, map, length};
 ghost use Rattle.dual_cert_write.specs.Sending.{Sends};
-ghost use Rattle.lb_answers.specs.Events.{cost_text, rules_text, request_text, result_word, setting_front, state_words, health_words, setting_behind, command_text, event_text, asked_server};
+ghost use Rattle.lb_answers.specs.Events.{cost_text, rules_text, request_text, set_text, clear_text, wanted_server, wanted_text, result_word, setting_front, state_words, health_words, setting_behind, command_text, event_text, asked_server};
 
-use crate::keys::send_asked_key;
+use crate::keys::{send_asked_key, send_key};
 use crate::names::{send_labelled, send_server};
 use dual_cert_write::sending::{Sent, send};
-use lb_desk_model::{BackendServer, Event, Request};
-use lb_types::{Name, Place, ServerId};
+use lb_desk_model::{BackendServer, Event, Request, SetPin};
+use lb_types::{MAX_SERVERS, Name, Place, ServerId, ServerSet};
 use lb_types_counted::Counted;
+use pin_set::PinId;
 use server_state::{AdminState, Change, Setting};
 use std::io::Write;
 
-/// The server that the event names, if it names one: of a connection, a check or a command.
+/// The server that the event names, if it names one: of a pin that is set, a connection, a check or a command.
 pub fn asked_server(event: &Event) -> Place
     ensures { result ≡ asked_server event.now }
 {
     match event {
+        Event::Set(set) => Some(set.server),
         Event::Open(server) | Event::Close(server) | Event::Check(server, _) => Some(*server),
         Event::Command(change) => Some(change.server),
-        Event::Serve(_) | Event::Expire(_) | Event::Snapshot | Event::Install(_) => None,
+        Event::Serve(_)
+        | Event::Clear(_)
+        | Event::Expire(_)
+        | Event::Snapshot
+        | Event::Install(_) => None,
     }
 }
 
@@ -36,6 +42,8 @@ pub(crate) fn send_event<W: Write>(
 {
     match event {
         Event::Serve(request) => send_request(out, sent, servers, request),
+        Event::Set(set) => send_set(out, sent, servers, set),
+        Event::Clear(name) => send_clear(out, sent, servers, name),
         Event::Open(server) => {
             let sent = send(out, sent, b"open ");
             send_server(out, sent, servers, *server)
@@ -70,6 +78,71 @@ fn send_request<W: Write>(
     let sent = send_asked_key(out, sent, &request.key);
     let sent = send_rules(out, sent, servers, request.rules.servers());
     send_cost(out, sent, request.cost)
+}
+
+/// Sends the moment of a pin that is set, its key and server, the servers that it wants, and its cost.
+fn send_set<W: Write>(
+    out: &mut Counted<W>,
+    sent: Sent,
+    servers: &[BackendServer],
+    set: &SetPin,
+) -> Sent
+    ensures { Sends out.old sent out.new result (set_text servers.now set.now) }
+{
+    let sent = send_labelled(out, sent, b"set ", set.moment.as_millis());
+    let sent = send(out, sent, b" ");
+    let sent = send_key(out, sent, &set.name.key);
+    let sent = send(out, sent, b" ");
+    let sent = send_server(out, sent, servers, set.server);
+    let sent = send_wanted(out, sent, servers, set.name.want);
+    send_cost(out, sent, set.cost)
+}
+
+/// Sends the key of a pin that is cleared, and the servers that it wants.
+fn send_clear<W: Write>(
+    out: &mut Counted<W>,
+    sent: Sent,
+    servers: &[BackendServer],
+    name: &PinId,
+) -> Sent
+    ensures { Sends out.old sent out.new result (clear_text servers.now name.now) }
+{
+    let sent = send(out, sent, b"clear ");
+    let sent = send_key(out, sent, &name.key);
+    send_wanted(out, sent, servers, name.want)
+}
+
+/// Sends a space before each server of the set, and the server.
+fn send_wanted<W: Write>(
+    out: &mut Counted<W>,
+    sent: Sent,
+    servers: &[BackendServer],
+    want: ServerSet,
+) -> Sent
+    ensures { Sends out.old sent out.new result (wanted_text servers.now want) }
+{
+    let mut sent = sent;
+    for index in 0..MAX_SERVERS {
+        sent = send_wanted_server(out, sent, servers, want, ServerId::new(index as u8));
+    }
+    sent
+}
+
+/// Sends a space and the server, if the set holds it.
+fn send_wanted_server<W: Write>(
+    out: &mut Counted<W>,
+    sent: Sent,
+    servers: &[BackendServer],
+    want: ServerSet,
+    server: ServerId,
+) -> Sent
+    ensures { Sends out.old sent out.new result (wanted_server servers.now want server) }
+{
+    if !want.has(server) {
+        return sent;
+    }
+    let sent = send(out, sent, b" ");
+    send_server(out, sent, servers, server)
 }
 
 /// Sends a space before each of the rules' servers, and the server.

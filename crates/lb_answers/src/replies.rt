@@ -1,13 +1,13 @@
 //! Replies of a backend.
 ghost use Rattle.std.specs.Prelude.{◌≡◌, sum_by};
 ghost use Rattle.dual_cert_write.specs.Sending.{Sends};
-ghost use Rattle.lb_answers.specs.Replies.{refusal_text, served_word, check_text, sheet_text, reply_text};
+ghost use Rattle.lb_answers.specs.Replies.{refusal_text, served_word, pinned_text, pinned_word, check_text, sheet_text, reply_text};
 
 use crate::names::{send_labelled, send_server, send_server_behind};
 use crate::scores::send_score;
 use dual_cert_plan::Sheet;
 use dual_cert_write::sending::{Sent, send};
-use lb_desk_model::{BackendServer, Refusal, Reply, ServedAs};
+use lb_desk_model::{BackendServer, PinnedAs, Refusal, Reply, ServedAs};
 use lb_types::Place;
 use lb_types_counted::Counted;
 use rise_fall::Flip;
@@ -31,6 +31,10 @@ pub(crate) fn send_reply<W: Write>(
             let sent = send_server(out, sent, servers, *server);
             send(out, sent, served_word(*served_as))
         }
+        Reply::Pinned(pinned_as) => send_pinned(out, sent, servers, asked, *pinned_as),
+        Reply::NoTable => send(out, sent, b"no table"),
+        Reply::Cleared => send(out, sent, b"cleared"),
+        Reply::NoPin => send(out, sent, b"no pin"),
         Reply::Opened => {
             let sent = send(out, sent, b"opened");
             send_server_behind(out, sent, servers, asked)
@@ -60,6 +64,32 @@ fn served_word(served_as: ServedAs) -> &'static [u8]
         ServedAs::Moved => b" moved",
         ServedAs::Made => b" made",
         ServedAs::Loose => b" loose",
+    }
+}
+
+/// Sends that a pin was set, where, and what became of it.
+fn send_pinned<W: Write>(
+    out: &mut Counted<W>,
+    sent: Sent,
+    servers: &[BackendServer],
+    asked: Place,
+    pinned_as: PinnedAs,
+) -> Sent
+    ensures { Sends out.old sent out.new result (pinned_text servers.now asked pinned_as) }
+{
+    let sent = send(out, sent, b"pinned");
+    let sent = send_server_behind(out, sent, servers, asked);
+    send(out, sent, pinned_word(pinned_as))
+}
+
+/// What became of a pin that was set, as the last word of the reply.
+fn pinned_word(pinned_as: PinnedAs) -> &'static [u8]
+    ensures { result.now ≡ pinned_word pinned_as }
+{
+    match pinned_as {
+        PinnedAs::Kept => b" kept",
+        PinnedAs::Moved => b" moved",
+        PinnedAs::Made => b" made",
     }
 }
 
@@ -105,6 +135,7 @@ fn send_refusal<W: Write>(out: &mut Counted<W>, sent: Sent, refusal: Refusal) ->
         Refusal::Full => send(out, sent, b"30 Full"),
         Refusal::NotServing => send(out, sent, b"31 NotServing"),
         Refusal::NotOpen => send(out, sent, b"32 NotOpen"),
+        Refusal::TableFull => send(out, sent, b"60 TableFull"),
         Refusal::Stale => send(out, sent, b"70 Stale"),
         Refusal::Bad(fault) => {
             let sent = send(out, sent, b"71 Bad ");

@@ -1,7 +1,7 @@
 //! Pins of a stick table.
 ghost use Rattle.std.specs.Prelude.{◌≡◌, map, flat_map, length};
 ghost use Rattle.dual_cert_write.specs.Sending.{Sends};
-ghost use Rattle.lb_answers.specs.Tables.{place_word, want_word, member_text, pin_line, type_word, table_heading, table_text};
+ghost use Rattle.lb_answers.specs.Tables.{place_word, want_word, member_text, pin_line, type_word, rows_text, table_heading, table_text};
 
 use crate::events::send_cost;
 use crate::keys::send_key;
@@ -25,10 +25,24 @@ pub(crate) fn send_table<W: Write>(
     ensures { Sends out.old sent out.new result
         (table_text backend.now.name backend.now.servers.now backend.now.table pins.now) }
 {
+    send_rows(out, sent, backend, pins.len(), pins)
+}
+
+/// Sends the heading of a table that has so many pins and a line for each of these, or that there is no table.
+pub(crate) fn send_rows<W: Write>(
+    out: &mut Counted<W>,
+    sent: Sent,
+    backend: &NamedBackend<'_>,
+    used: usize,
+    pins: &[TablePin],
+) -> Sent
+    ensures { Sends out.old sent out.new result
+        (rows_text backend.now.name backend.now.servers.now backend.now.table used pins.now) }
+{
     let Some(table) = backend.table else {
         return send(out, sent, b"no table\n");
     };
-    let sent = send_heading(out, sent, &backend.name, table, pins.len());
+    let sent = send_heading(out, sent, &backend.name, table, used);
     send_pins(out, sent, backend.servers, pins)
 }
 

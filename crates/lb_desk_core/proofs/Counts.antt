@@ -14,7 +14,7 @@ load-cons p pins server = sum_by-cons (λ (q : TablePin). cond (is_at server q.p
 pub load-push : (pins : List TablePin) (p : TablePin) (server : ℕ) → load (pins ++ p ∷ []) server ≡ load pins server + one_at p.pin.place server
 load-push pins p server = sum_by_push (λ (q : TablePin). cond (is_at server q.pin.place) 1 0) pins p
 
-load-append : (xs ys : List TablePin) (server : ℕ) → load (xs ++ ys) server ≡ load xs server + load ys server
+pub load-append : (xs ys : List TablePin) (server : ℕ) → load (xs ++ ys) server ≡ load xs server + load ys server
 load-append xs ys server = sum_by-append (λ (q : TablePin). cond (is_at server q.pin.place) 1 0) xs ys
 
 -- another pin in its place, behind the others

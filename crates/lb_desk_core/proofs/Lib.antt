@@ -7,6 +7,7 @@ pub mod Reached
 pub mod Requests
 pub mod Room
 pub mod Served
+pub mod SetPins
 pub mod Shown
 pub mod Snapshots
 pub mod Stepped

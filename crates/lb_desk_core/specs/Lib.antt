@@ -4,3 +4,4 @@ pub mod Expiring
 pub mod PlacesPins
 pub mod Parts
 pub mod Requests
+pub mod SetPins

@@ -7,7 +7,8 @@ use Rattle.pin_set.specs.Pins.{honoured}
 use Rattle.server_state.specs.Farm.{serving, usable}
 use Rattle.lb_desk_model.specs.declared.event.Request.{Request}
 use Rattle.lb_desk_model.specs.declared.reply.Reply.{Reply}
-use Rattle.lb_desk_model.specs.declared.reply.Reply.TheVariants.{Served}
+use Rattle.lb_desk_model.specs.declared.reply.PinnedAs.TheVariants as Put
+use Rattle.lb_desk_model.specs.declared.reply.Reply.TheVariants.{Served, Pinned, Cleared}
 use Rattle.lb_desk_model.specs.declared.reply.ServedAs.TheVariants.{Moved, Made}
 use Rattle.lb_desk_model.specs.Seen.{Seen}
 use Rattle.lb_desk_model.specs.Serves.{want_of}
@@ -38,8 +39,11 @@ honours shown want server = honoured (Some server) want (usable shown.farm) (ser
 abbrev pub one_at : Option ℕ → ℕ → ℕ
 one_at place server = if is_at server place then 1 else 0
 
--- the reply tells that a pin is at another place than before, or wasn't there
+-- the reply tells that a pin is at another place than before, wasn't there, or is gone
 abbrev pub moves_pin : Reply → Bool
 moves_pin (Served server Moved) = true
 moves_pin (Served server Made) = true
+moves_pin (Pinned Put.Moved) = true
+moves_pin (Pinned Put.Made) = true
+moves_pin Cleared = true
 moves_pin reply = false

@@ -13,7 +13,7 @@ use crate::backend_core::Core;
 use crate::events::count;
 use crate::loads::shift;
 use crate::parts::Parts;
-use lb_desk_model::{Event, Refusal, Reply, Request, ServedAs};
+use lb_desk_model::{Event, PinnedAs, Refusal, Reply, Request, ServedAs};
 use lb_desk_pick::{Pick, are_below, loose_pick, pin_pick, set_of};
 use lb_types::{Moment, Place, ServerId, ServerSet};
 use pin_set::{PinId, honoured};
@@ -42,11 +42,16 @@ impl<S: BuildHasher> Core<S> {
     }
 }
 
-/// Whether the reply says that a pin is at another place than before, or wasn't there.
-fn moves_pin(reply: &Reply) -> bool
+/// Whether the reply says that a pin is at another place than before, wasn't there, or is gone.
+pub(crate) fn moves_pin(reply: &Reply) -> bool
     ensures { result ≡ moves_pin reply.now }
 {
-    matches!(reply, Reply::Served(_, ServedAs::Moved | ServedAs::Made))
+    matches!(
+        reply,
+        Reply::Served(_, ServedAs::Moved | ServedAs::Made)
+            | Reply::Pinned(PinnedAs::Moved | PinnedAs::Made)
+            | Reply::Cleared
+    )
 }
 
 impl<S: BuildHasher> Parts<S> {
@@ -244,7 +249,7 @@ impl<S: BuildHasher> Parts<S> {
     }
 
     /// The place of the pin that leaves the table where one is made: in a full table the oldest one's.
-    fn lost_place(&self) -> Place
+    pub(crate) fn lost_place(&self) -> Place
         ensures { ForEach self.now.shown (λ state. lost_place state ≡ result) }
     {
         if !self.is_full() {
@@ -257,14 +262,14 @@ impl<S: BuildHasher> Parts<S> {
     }
 
     /// Whether the table has as many pins as it may; a table that isn't there is full.
-    fn is_full(&self) -> bool
+    pub(crate) fn is_full(&self) -> bool
         ensures { ForEach self.now.shown (λ state. result ≡ is_full state) }
     {
         self.settings.is_none() || self.table.is_full()
     }
 
     /// Whether a full table keeps its pins.
-    fn keeps_pins(&self) -> bool
+    pub(crate) fn keeps_pins(&self) -> bool
         ensures { ForEach self.now.shown (λ state. result ≡ keeps_pins state) }
     {
         match self.settings {
@@ -274,14 +279,14 @@ impl<S: BuildHasher> Parts<S> {
     }
 
     /// The moment, or the latest one where that is later.
-    fn moment_of(&self, now: Moment) -> Moment
+    pub(crate) fn moment_of(&self, now: Moment) -> Moment
         ensures { result ≡ max self.now.shown.latest now }
     {
         Moment::from_millis(self.latest.as_millis().max(now.as_millis()))
     }
 }
 
-fn copied(name: &PinId) -> Result<PinId, AllocError>
+pub(crate) fn copied(name: &PinId) -> Result<PinId, AllocError>
     ensures { IfOk result (λ copy. copy ≡ name.now) }
 {
     name.clone()

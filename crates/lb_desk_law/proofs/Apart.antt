@@ -8,17 +8,21 @@ use Rattle.pin_set.specs.declared.pin.PinId.{PinId}
 use Rattle.server_state.specs.declared.checked.Checked.TheVariants.{Took, Ignored}
 use Rattle.lb_desk_model.specs.declared.entry.Entry.{Entry}
 use Rattle.lb_desk_model.specs.declared.event.Event.{Event}
-use Rattle.lb_desk_model.specs.declared.event.Event.TheVariants.{Serve, Open, Close, Expire, Check, Command, Snapshot, Install}
+use Rattle.lb_desk_model.specs.declared.event.Event.TheVariants.{Serve, Set, Clear, Open, Close, Expire, Check, Command, Snapshot, Install}
 use Rattle.lb_desk_model.specs.declared.event.Request.{Request}
-use Rattle.lb_desk_model.specs.declared.reply.Refusal.TheVariants.{NoSuchServer, Full, NotServing, NotOpen, Stale, Bad, NoServer}
+use Rattle.lb_desk_model.specs.declared.event.SetPin.{SetPin}
+use Rattle.lb_desk_model.specs.declared.reply.Refusal.TheVariants.{NoSuchServer, Full, NotServing, NotOpen, TableFull, Stale, Bad, NoServer}
 use Rattle.lb_desk_model.specs.declared.reply.Reply.{Reply}
-use Rattle.lb_desk_model.specs.declared.reply.Reply.TheVariants.{Served, Opened, Closed, Expired, Checked, Done, Sheet, Installed, Refused}
+use Rattle.lb_desk_model.specs.declared.reply.Reply.TheVariants.{Served, Pinned, NoTable, Cleared, NoPin, Opened, Closed, Expired, Checked, Done, Sheet, Installed, Refused}
+use Rattle.lb_desk_model.specs.declared.reply.PinnedAs.{PinnedAs}
+use Rattle.lb_desk_model.specs.declared.reply.PinnedAs.TheVariants as Put
 use Rattle.lb_desk_model.specs.declared.reply.ServedAs.{ServedAs}
 use Rattle.lb_desk_model.specs.declared.reply.ServedAs.TheVariants.{Kept, Moved, Made, Loose}
 use Rattle.pin_set.specs.declared.table_pin.TablePin.{TablePin}
 use Rattle.lb_desk_model.specs.Histories.{History}
 use Rattle.lb_desk_model.specs.Installs.{moved_to}
 use Rattle.lb_desk_model.specs.Serves.{Serves, IsNew, is_full, staying}
+use Rattle.lb_desk_model.specs.Sets.{Sets}
 use Rattle.lb_desk_model.specs.States.{State}
 use Rattle.lb_desk_model.specs.Steps.{Does, Step}
 
@@ -48,7 +52,7 @@ differ-both : (p : TablePin) (xs ys : List TablePin) → DifferFrom p xs → Dif
 differ-both p [] ys d e = e
 differ-both p (x ∷ xs) ys d e = (d.0, differ-both p xs ys d.1 e)
 
-apart-cut : (xs ys : List TablePin) → Apart (xs ++ ys) → Apart xs × Apart ys × Across xs ys
+pub apart-cut : (xs ys : List TablePin) → Apart (xs ++ ys) → Apart xs × Apart ys × Across xs ys
 apart-cut [] ys a = (tt, a, tt)
 apart-cut (x ∷ xs) ys a =
     let rest = apart-cut xs ys a.1 in
@@ -84,6 +88,12 @@ apart-to_end before found after used e a =
     let behind : Apart (after ++ used ∷ []) = apart-joined after (used ∷ []) parts.1.1 (tt, tt) (across-one after found used e parts.1.0) in
     rw append_assoc (apart-joined before (after ++ used ∷ []) parts.0 behind
     (across-both before after (used ∷ []) (across-last before found after parts.2) (across-first before found used after e parts.2)))
+
+-- a pin is taken out
+apart-without : (before : List TablePin) (found : TablePin) (after : List TablePin) → Apart (before ++ found ∷ after) → Apart (before ++ after)
+apart-without before found after a =
+    let parts = apart-cut before (found ∷ after) a in
+    apart-joined before after parts.0 parts.1.1 (across-last before found after parts.2)
 
 -- a pin of a new name is put last
 across-new : (name : PinId) (xs : List TablePin) (q : TablePin) → q.pin.id ≡ name → IsNew name xs → Across xs (q ∷ [])
@@ -157,10 +167,28 @@ serves-apart old request server Made new a s =
     apart-is new _ (ap pins_of s.4) (apart-joined (staying old) _ (apart-staying (is_full old) old.pins a) (tt, tt) (across-staying (is_full old) old.pins _ (across-new s.0 old.pins _ refl s.2.unknown)))
 serves-apart old request server Loose new a s = apart-is new old.pins (ap pins_of s.3) a
 
+sets-apart : (old : State) (set : SetPin) (how : PinnedAs) (new : State) → Apart old.pins → Sets old set how new → Apart new.pins
+sets-apart old set Put.Kept new a s =
+    let stood : Apart (s.0 ++ s.1 ∷ s.2) = rw s.3.is at a in
+    apart-is new _ (ap pins_of s.5) (apart-to_end s.0 s.1 s.2 _ refl stood)
+sets-apart old set Put.Moved new a s =
+    let stood : Apart (s.0 ++ s.1 ∷ s.2) = rw s.3.is at a in
+    apart-is new _ (ap pins_of s.5) (apart-to_end s.0 s.1 s.2 _ refl stood)
+sets-apart old set Put.Made new a s =
+    apart-is new _ (ap pins_of s.2) (apart-joined (staying old) _ (apart-staying (is_full old) old.pins a) (tt, tt) (across-staying (is_full old) old.pins _ (across-new set.name old.pins _ refl s.0)))
+
 pub does-apart : (old : State) (event : Event) (reply : Reply) (new : State) → Apart old.pins → Does old event reply new → Apart new.pins
 does-apart old (Serve request) (Served server how) new a d = serves-apart old request server how new a d.1
 does-apart old (Serve request) (Refused NoSuchServer) new a d = apart-is new old.pins (ap pins_of d.1) a
 does-apart old (Serve request) (Refused NoServer) new a d = apart-is new old.pins (ap pins_of d.2) a
+does-apart old (Set set) (Pinned how) new a d = sets-apart old set how new a d.2
+does-apart old (Set set) NoTable new a d = apart-is new old.pins (ap pins_of d.2) a
+does-apart old (Set set) (Refused NoSuchServer) new a d = apart-is new old.pins (ap pins_of d.1) a
+does-apart old (Set set) (Refused TableFull) new a d = apart-is new old.pins (ap pins_of d.3) a
+does-apart old (Clear name) Cleared new a d =
+    let stood : Apart (d.before ++ d.found ∷ d.after) = rw d.stands.is at a in
+    apart-is new _ (ap pins_of d.new_is) (apart-without d.before d.found d.after stood)
+does-apart old (Clear name) NoPin new a d = apart-is new old.pins (ap pins_of d.1) a
 does-apart old (Open server) Opened new a d = apart-is new old.pins (ap pins_of d.new_is) a
 does-apart old (Open server) (Refused NotServing) new a d = apart-is new old.pins (ap pins_of d.1) a
 does-apart old (Open server) (Refused Full) new a d = apart-is new old.pins (ap pins_of d.2) a

@@ -1,6 +1,6 @@
 -- In every history of a backend the view is lawful.
 use Rattle.std.proofs.Common.{◌≡◌, ◌≢◌, ℕ, ◌+◌, ◌-◌, ◌^◌, ◌<◌, ◌≤◌, zero, suc, Bool, true, false, not, cond, leb, ltb, Option, Some, None, List, [], ◌∷◌, ◌++◌, length, map, drop, get_or, refl, sym, ap, ◌∙◌, inl, inr, arith}
-use Rattle.std.specs.Prelude.{filter, All, AllPairs, slice_get, slice_set}
+use Rattle.std.specs.Prelude.{filter, All, AllPairs, IsSome, slice_get, slice_set}
 use Rattle.std.specs.List.{zip}
 use Rattle.std.specs.Option.{option_map, option_map_or, option_and_then}
 use Rattle.std.proofs.Math.ListN
@@ -25,15 +25,18 @@ use Rattle.server_state.specs.declared.change.Setting.{Setting}
 use Rattle.server_state.specs.declared.change.Setting.TheVariants.{Admin, Health, Weight, MaxConnections, MaxPins}
 use Rattle.server_state.specs.Changes.{fault_at, fault_of}
 use Rattle.std.proofs.lemmas.Option.{slice_get-map}
-use Rattle.std.proofs.lemmas.Bool.{leb-false, ltb-false}
+use Rattle.std.proofs.lemmas.Bool.{false≢true, leb-false, ltb-false}
 use Rattle.lb_desk_model.specs.declared.backend.BackendServer.{BackendServer}
 use Rattle.lb_desk_model.specs.declared.entry.Entry.{Entry}
 use Rattle.lb_desk_model.specs.declared.event.Event.{Event}
-use Rattle.lb_desk_model.specs.declared.event.Event.TheVariants.{Serve, Open, Close, Expire, Check, Command, Snapshot, Install}
+use Rattle.lb_desk_model.specs.declared.event.Event.TheVariants.{Serve, Set, Clear, Open, Close, Expire, Check, Command, Snapshot, Install}
 use Rattle.lb_desk_model.specs.declared.event.Request.{Request}
-use Rattle.lb_desk_model.specs.declared.reply.Refusal.TheVariants.{NoSuchServer, Full, NotServing, NotOpen, Stale, Bad, NoServer}
+use Rattle.lb_desk_model.specs.declared.event.SetPin.{SetPin}
+use Rattle.lb_desk_model.specs.declared.reply.Refusal.TheVariants.{NoSuchServer, Full, NotServing, NotOpen, TableFull, Stale, Bad, NoServer}
 use Rattle.lb_desk_model.specs.declared.reply.Reply.{Reply}
-use Rattle.lb_desk_model.specs.declared.reply.Reply.TheVariants.{Served, Opened, Closed, Expired, Checked, Done, Sheet, Installed, Refused}
+use Rattle.lb_desk_model.specs.declared.reply.Reply.TheVariants.{Served, Pinned, NoTable, Cleared, NoPin, Opened, Closed, Expired, Checked, Done, Sheet, Installed, Refused}
+use Rattle.lb_desk_model.specs.declared.reply.PinnedAs.{PinnedAs}
+use Rattle.lb_desk_model.specs.declared.reply.PinnedAs.TheVariants as Put
 use Rattle.lb_desk_model.specs.declared.reply.ServedAs.{ServedAs}
 use Rattle.lb_desk_model.specs.declared.reply.ServedAs.TheVariants.{Kept, Moved, Made, Loose}
 use Rattle.pin_set.specs.declared.table_pin.TablePin.{TablePin}
@@ -42,6 +45,7 @@ use Rattle.lb_desk_model.specs.Histories.{History}
 use Rattle.lb_desk_model.specs.Serves.{Serves, is_full, staying, name_of, pin_name, want_of, used_at, new_pin, moment_of}
 use Rattle.lb_desk_model.specs.Servers.{with_setting, with_result}
 use Rattle.lb_desk_model.specs.Installs.{Installs}
+use Rattle.lb_desk_model.specs.Sets.{AreThere, Clears, Sets, set_pin}
 use Rattle.lb_desk_model.specs.States.{ServerState, State, with_server, opening, view_of, view_server, server_at_start, seen_server, farm_of, usable}
 use Rattle.lb_desk_model.specs.Steps.{Does, Step, has_expired}
 use Rattle.lb_desk_law.proofs.Apart.{Apart, DifferFrom, all_moved, history-apart}
@@ -232,6 +236,13 @@ named-table state request name e = go state.table refl e
     go None is e = absurd cc
     go (Some table) is e = record { table = table; is = is }
 
+some-table : (state : State) → IsSome state.table → HasTable state
+some-table state some = go state.table refl some
+  where
+    go : (t : Option TableSettings) → state.table ≡ t → IsSome t → HasTable state
+    go None is some = absurd (false≢true some)
+    go (Some table) is some = record { table = table; is = is }
+
 serves-sound : (backend : BackendParts) (old : State) (request : Request) (server : ℕ) (how : ServedAs) (new : State) → Sound backend old
     → Serves old request server how new → Sound backend new
 serves-sound backend old request server Kept new sound s =
@@ -260,6 +271,56 @@ serves-sound backend old request server Made new sound s =
     sound
 serves-sound backend old request server Loose new sound s =
     pins-sound backend old new old.pins (ap servers_of s.3) (ap table_of s.3) (ap pins_of s.3) sound.fits sound.pins sound
+
+-- ---- pins that are set and cleared
+
+sets-sound : (backend : BackendParts) (old : State) (set : SetPin) (how : PinnedAs) (new : State) → Sound backend old
+    → AreThere old set → IsSome old.table → Sets old set how new → Sound backend new
+sets-sound backend old set Put.Kept new sound there some s =
+    let used = used_at s.1 set.server (moment_of old set.moment) in
+    let n = length old.servers in
+    let below = at_server n set.server there.server in
+    pins-sound backend old new _ (ap servers_of s.5) (ap table_of s.5) (ap pins_of s.5)
+    (to_end-fits s.0 s.1 s.2 used (size_of old.table) (rw s.3.is at sound.fits))
+    (to_end-are n s.0 s.1 s.2 used (λ k. record { place = below; cost_from = k.cost_from; cost_to = k.cost_to }) (rw s.3.is at sound.pins))
+    sound
+sets-sound backend old set Put.Moved new sound there some s =
+    let used = used_at s.1 set.server (moment_of old set.moment) in
+    let n = length old.servers in
+    let below = at_server n set.server there.server in
+    pins-sound backend old new _ (ap servers_of s.5) (ap table_of s.5) (ap pins_of s.5)
+    (to_end-fits s.0 s.1 s.2 used (size_of old.table) (rw s.3.is at sound.fits))
+    (to_end-are n s.0 s.1 s.2 used (λ k. record { place = below; cost_from = k.cost_from; cost_to = k.cost_to }) (rw s.3.is at sound.pins))
+    sound
+sets-sound backend old set Put.Made new sound there some s =
+    let used = set_pin set (moment_of old set.moment) in
+    let n = length old.servers in
+    let below = at_server n set.server there.server in
+    let has = some-table old some in
+    pins-sound backend old new _ (ap servers_of s.2) (ap table_of s.2) (ap pins_of s.2)
+    (made-fits old has.table used has.is sound.fits)
+    (are-both n (staying old) (used ∷ []) (are-staying n (is_full old) old.pins sound.pins) (record { place = below; cost_from = set.cost_from; cost_to = set.cost_to }, tt))
+    sound
+
+without-fits : (before : List TablePin) (found : TablePin) (after : List TablePin) (most : ℕ)
+    → length (before ++ found ∷ after) ≤ most → length (before ++ after) ≤ most
+without-fits before found after most fits =
+    let one = length-both before (found ∷ after) in
+    let two = length-both before after in
+    omega arith
+
+without-are : (n : ℕ) (before : List TablePin) (found : TablePin) (after : List TablePin) → ArePins n (before ++ found ∷ after)
+    → ArePins n (before ++ after)
+without-are n before found after are =
+    let parts = are-cut n before (found ∷ after) are in
+    are-both n before after parts.0 parts.1.1
+
+clears-sound : (backend : BackendParts) (old : State) (name : PinId) (new : State) → Sound backend old → Clears old name new → Sound backend new
+clears-sound backend old name new sound c =
+    pins-sound backend old new (c.before ++ c.after) (ap servers_of c.new_is) (ap table_of c.new_is) (ap pins_of c.new_is)
+    (without-fits c.before c.found c.after (size_of old.table) (rw c.stands.is at sound.fits))
+    (without-are (length old.servers) c.before c.found c.after (rw c.stands.is at sound.pins))
+    sound
 
 -- ---- changes
 
@@ -318,6 +379,12 @@ does-sound : (backend : BackendParts) (old : State) (event : Event) (reply : Rep
 does-sound backend old (Serve request) (Served server how) new sound d = serves-sound backend old request server how new sound d.1
 does-sound backend old (Serve request) (Refused NoSuchServer) new sound d = same-sound backend old new d.1 sound
 does-sound backend old (Serve request) (Refused NoServer) new sound d = same-sound backend old new d.2 sound
+does-sound backend old (Set set) (Pinned how) new sound d = sets-sound backend old set how new sound d.0 d.1 d.2
+does-sound backend old (Set set) NoTable new sound d = same-sound backend old new d.2 sound
+does-sound backend old (Set set) (Refused NoSuchServer) new sound d = same-sound backend old new d.1 sound
+does-sound backend old (Set set) (Refused TableFull) new sound d = same-sound backend old new d.3 sound
+does-sound backend old (Clear name) Cleared new sound d = clears-sound backend old name new sound d
+does-sound backend old (Clear name) NoPin new sound d = same-sound backend old new d.1 sound
 does-sound backend old (Open server) Opened new sound d =
     server-sound backend old new server d.found (record d.found { connections = d.found.connections + 1 }) d.is refl (few-at old.servers server d.found d.is sound.few) d.new_is sound
 does-sound backend old (Open server) (Refused NotServing) new sound d = same-sound backend old new d.1 sound

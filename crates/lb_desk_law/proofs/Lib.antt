@@ -5,5 +5,7 @@ pub mod Installs
 pub mod Lawful
 pub mod Parts
 pub mod SameViews
+pub mod SetPins
+pub mod SetsOnce
 pub mod Versions
 pub mod Worlds

@@ -3,15 +3,19 @@ use Rattle.std.proofs.Common.{◌≡◌, ◌⊎◌, ℕ, ◌+◌, ◌<◌, ◌�
 use Rattle.server_state.specs.declared.checked.Checked.TheVariants.{Took, Ignored}
 use Rattle.lb_desk_model.specs.declared.entry.Entry.{Entry}
 use Rattle.lb_desk_model.specs.declared.event.Event.{Event}
-use Rattle.lb_desk_model.specs.declared.event.Event.TheVariants.{Serve, Open, Close, Expire, Check, Command, Snapshot, Install}
+use Rattle.lb_desk_model.specs.declared.event.Event.TheVariants.{Serve, Set, Clear, Open, Close, Expire, Check, Command, Snapshot, Install}
 use Rattle.lb_desk_model.specs.declared.event.Request.{Request}
-use Rattle.lb_desk_model.specs.declared.reply.Refusal.TheVariants.{NoSuchServer, Full, NotServing, NotOpen, Stale, Bad, NoServer}
+use Rattle.lb_desk_model.specs.declared.event.SetPin.{SetPin}
+use Rattle.lb_desk_model.specs.declared.reply.Refusal.TheVariants.{NoSuchServer, Full, NotServing, NotOpen, TableFull, Stale, Bad, NoServer}
 use Rattle.lb_desk_model.specs.declared.reply.Reply.{Reply}
-use Rattle.lb_desk_model.specs.declared.reply.Reply.TheVariants.{Served, Opened, Closed, Expired, Checked, Done, Sheet, Installed, Refused}
+use Rattle.lb_desk_model.specs.declared.reply.Reply.TheVariants.{Served, Pinned, NoTable, Cleared, NoPin, Opened, Closed, Expired, Checked, Done, Sheet, Installed, Refused}
+use Rattle.lb_desk_model.specs.declared.reply.PinnedAs.{PinnedAs}
+use Rattle.lb_desk_model.specs.declared.reply.PinnedAs.TheVariants as Put
 use Rattle.lb_desk_model.specs.declared.reply.ServedAs.{ServedAs}
 use Rattle.lb_desk_model.specs.declared.reply.ServedAs.TheVariants.{Kept, Moved, Made, Loose}
 use Rattle.lb_desk_model.specs.Histories.{History, Changed}
 use Rattle.lb_desk_model.specs.Serves.{Serves}
+use Rattle.lb_desk_model.specs.Sets.{Sets}
 use Rattle.lb_desk_model.specs.States.{State, SameView, view_of}
 use Rattle.lb_desk_model.specs.Steps.{Does, Step}
 use Rattle.lb_desk_law.proofs.SameViews.{same_view-refl, same_view-trans}
@@ -25,10 +29,21 @@ serves-version old request server Moved new s = ap version_of s.6
 serves-version old request server Made new s = ap version_of s.4
 serves-version old request server Loose new s = ap version_of s.3
 
+sets-version : (old : State) (set : SetPin) (how : PinnedAs) (new : State) → Sets old set how new → new.version ≡ old.version
+sets-version old set Put.Kept new s = ap version_of s.5
+sets-version old set Put.Moved new s = ap version_of s.5
+sets-version old set Put.Made new s = ap version_of s.2
+
 pub does-version : (old : State) (event : Event) (reply : Reply) (new : State) → Does old event reply new → new.version ≡ old.version
 does-version old (Serve request) (Served server how) new d = serves-version old request server how new d.1
 does-version old (Serve request) (Refused NoSuchServer) new d = ap version_of d.1
 does-version old (Serve request) (Refused NoServer) new d = ap version_of d.2
+does-version old (Set set) (Pinned how) new d = sets-version old set how new d.2
+does-version old (Set set) NoTable new d = ap version_of d.2
+does-version old (Set set) (Refused NoSuchServer) new d = ap version_of d.1
+does-version old (Set set) (Refused TableFull) new d = ap version_of d.3
+does-version old (Clear name) Cleared new d = ap version_of d.new_is
+does-version old (Clear name) NoPin new d = ap version_of d.1
 does-version old (Open server) Opened new d = ap version_of d.new_is
 does-version old (Open server) (Refused NotServing) new d = ap version_of d.1
 does-version old (Open server) (Refused Full) new d = ap version_of d.2

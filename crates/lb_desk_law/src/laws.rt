@@ -3,6 +3,7 @@ ghost use Rattle.lb_desk_law.specs.Headline.{KeepsPins, IsLawfulThen, IsBestThen
 ghost use Rattle.lb_desk_law.specs.Worlds.{AcceptedAreNeverBad};
 ghost use Rattle.lb_desk_law.specs.LawfulViews.{ViewsAreLawful};
 ghost use Rattle.lb_desk_law.specs.Parts.{PartsAreHistories};
+ghost use Rattle.lb_desk_law.specs.SetPins.{ClearsAreOne, SetPinsAreKept, SetPinsMakeTheTable, SetsAreOne};
 ghost use Rattle.lb_desk_law.specs.Examples.{RoundOfTwo, RoundOfFewer, LeastOfTwo, FirstOfTwo};
 
 /// Each install of each history is stale exactly where the view has changed, and then changes nothing. Else it is refused exactly as
@@ -31,6 +32,23 @@ pub fn views_are_lawful()
 /// of each step of each history.
 pub fn parts_of_a_history()
     ensures { PartsAreHistories }
+{}
+
+/// A pin that was set is kept by the next request of its name, where its place is honoured: the server serves, and the rules name it or
+/// no usable one.
+pub fn a_pin_that_was_set_is_kept()
+    ensures { SetPinsAreKept }
+{}
+
+/// Pins that are set in order of last use, into an empty table that is large enough, are the table.
+pub fn pins_that_are_set_make_the_table()
+    ensures { SetPinsMakeTheTable }
+{}
+
+/// A Set or a Clear of a state has one reply, and leaves one state.
+pub fn sets_and_clears_are_one()
+    ensures sets { SetsAreOne }
+    ensures clears { ClearsAreOne }
 {}
 
 /// Worked picks of each balance on two servers.

@@ -9,6 +9,7 @@
 mod laws;
 
 pub use laws::{
-    accepted_plans_are_never_bad, installs_are_stale_or_best, parts_of_a_history, views_are_lawful,
-    worked_picks,
+    a_pin_that_was_set_is_kept, accepted_plans_are_never_bad, installs_are_stale_or_best,
+    parts_of_a_history, pins_that_are_set_make_the_table, sets_and_clears_are_one,
+    views_are_lawful, worked_picks,
 };

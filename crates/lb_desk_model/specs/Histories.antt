@@ -1,9 +1,8 @@
 -- Whole histories of one backend. Callers interleave by whole events, since one event is one step: an interleaving is a
 -- list of events.
-use Rattle.std.specs.Prelude.{◌≡◌, ◌⊎◌, ℕ, List, [], ◌∷◌, ◌++◌, length}
+use Rattle.std.specs.Prelude.{◌≡◌, ◌⊎◌, List, [], ◌∷◌}
 use Rattle.lb_desk_model.specs.declared.entry.Entry.{Entry}
-use Rattle.lb_desk_model.specs.Backends.{BackendParts}
-use Rattle.lb_desk_model.specs.States.{State, SameView, opening, view_of}
+use Rattle.lb_desk_model.specs.States.{State, SameView, view_of}
 use Rattle.lb_desk_model.specs.Steps.{Step}
 
 -- the entries are the steps from the old state to the new one
@@ -16,9 +15,3 @@ abbrev pub Changed : (old : State) (entries : List Entry) (new : State) → Hist
 Changed old [] new history = ⊥
 Changed old (entry ∷ entries) new history =
     (SameView (view_of old) (view_of history.0) → ⊥) ⊎ Changed history.0 entries new history.2
-
--- The entries end a history of the backend, in this state, and `first` entries stood before them, which are forgotten
-pub record IsTail (backend : BackendParts) (first : ℕ) (entries : List Entry) (state : State) : Type 0 where
-  pub forgotten : List Entry
-  pub as_many : length forgotten ≡ first
-  pub history : History (opening backend) (forgotten ++ entries) state

@@ -8,6 +8,7 @@ pub mod RefusalNumbers
 pub mod Seen
 pub mod Serves
 pub mod Servers
+pub mod Sets
 pub mod States
 pub mod Steps
 pub mod Worn

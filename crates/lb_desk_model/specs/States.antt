@@ -52,7 +52,7 @@ pub record State : Type 0 where
   pub pins : List TablePin
   -- the stand that a round has come to, and none before the first round
   pub cursor : Option Stand
-  -- the latest moment of a request that was served
+  -- the latest moment of a request that was served, or of a pin that was set
   pub latest : ℕ
   -- how many steps have changed the view
   pub version : ℕ

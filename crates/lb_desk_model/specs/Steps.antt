@@ -1,16 +1,17 @@
 -- One event is one step of the machine: which reply goes with it, and what state follows.
-use Rattle.std.specs.Prelude.{◌≡◌, ◌≢◌, ◌⊎◌, ℕ, ◌+◌, Bool, true, false, not, nat_le, filter, count_by, Err}
+use Rattle.std.specs.Prelude.{◌≡◌, ◌≢◌, ◌⊎◌, ℕ, ◌+◌, Bool, true, false, not, nat_le, filter, count_by, None, IsSome, Err}
 use Rattle.std.specs.Option.{option_map_or}
 use Rattle.server_state.specs.declared.checked.Checked.TheVariants.{Took, Ignored}
 use Rattle.lb_desk_model.specs.declared.event.Event.{Event}
-use Rattle.lb_desk_model.specs.declared.event.Event.TheVariants.{Serve, Open, Close, Expire, Check, Command, Snapshot, Install}
-use Rattle.lb_desk_model.specs.declared.reply.Refusal.TheVariants.{NoSuchServer, Full, NotServing, NotOpen, Stale, Bad, NoServer}
+use Rattle.lb_desk_model.specs.declared.event.Event.TheVariants.{Serve, Set, Clear, Open, Close, Expire, Check, Command, Snapshot, Install}
+use Rattle.lb_desk_model.specs.declared.reply.Refusal.TheVariants.{NoSuchServer, Full, NotServing, NotOpen, TableFull, Stale, Bad, NoServer}
 use Rattle.lb_desk_model.specs.declared.reply.Reply.{Reply}
-use Rattle.lb_desk_model.specs.declared.reply.Reply.TheVariants.{Served, Opened, Closed, Expired, Checked, Done, Sheet, Installed, Refused}
+use Rattle.lb_desk_model.specs.declared.reply.Reply.TheVariants.{Served, Pinned, NoTable, Cleared, NoPin, Opened, Closed, Expired, Checked, Done, Sheet, Installed, Refused}
 use Rattle.pin_set.specs.declared.table_pin.TablePin.{TablePin}
 use Rattle.lb_desk_model.specs.Picks.{connections_at, has_room}
 use Rattle.lb_desk_model.specs.Installs.{IsSheetOf, Judges, Installs}
-use Rattle.lb_desk_model.specs.Serves.{AreServers, Serves, HasNoServer, moment_of}
+use Rattle.lb_desk_model.specs.Serves.{AreServers, IsNew, Serves, HasNoServer, moment_of}
+use Rattle.lb_desk_model.specs.Sets.{AreThere, Sets, HasNoRoom, Clears}
 use Rattle.lb_desk_model.specs.Servers.{Opens, Closes, TakesResult, IgnoresResult, Changes, RefusesChange, RefusesResult}
 use Rattle.lb_desk_model.specs.States.{State, SameView, serving, view_of}
 
@@ -24,6 +25,13 @@ abbrev pub Does : State → Event → Reply → State → Type 0
 Does old (Serve request) (Served server how) new = AreServers old request.rules × Serves old request server how new
 Does old (Serve request) (Refused NoSuchServer) new = (AreServers old request.rules → ⊥) × (new ≡ old)
 Does old (Serve request) (Refused NoServer) new = AreServers old request.rules × HasNoServer old request × (new ≡ old)
+-- ---- a pin that is set, and one that is cleared
+Does old (Set set) (Pinned how) new = AreThere old set × IsSome old.table × Sets old set how new
+Does old (Set set) NoTable new = AreThere old set × (old.table ≡ None) × (new ≡ old)
+Does old (Set set) (Refused NoSuchServer) new = (AreThere old set → ⊥) × (new ≡ old)
+Does old (Set set) (Refused TableFull) new = AreThere old set × IsSome old.table × HasNoRoom old set × (new ≡ old)
+Does old (Clear name) Cleared new = Clears old name new
+Does old (Clear name) NoPin new = IsNew name old.pins × (new ≡ old)
 -- ---- connections
 Does old (Open server) Opened new = Opens old server new
 Does old (Open server) (Refused NotServing) new = (serving old server ≡ false) × (new ≡ old)

@@ -6,7 +6,7 @@ use Rattle.lb_desk_model.specs.declared.entry.Entry.{Entry}
 use Rattle.lb_desk_model.specs.declared.event.Event.{Event}
 use Rattle.lb_desk_model.specs.declared.event.Event.TheVariants.{Close}
 use Rattle.lb_desk_model.specs.declared.reply.Reply.{Reply}
-use Rattle.lb_desk_model.specs.declared.reply.Reply.TheVariants.{Served}
+use Rattle.lb_desk_model.specs.declared.reply.Reply.TheVariants.{Served, Pinned}
 use Rattle.lb_desk_model.specs.declared.reply.ServedAs.{ServedAs}
 use Rattle.lb_desk_model.specs.declared.reply.ServedAs.TheVariants.{Loose}
 use Rattle.lb_desk_model.specs.Seen.{Seen}
@@ -34,10 +34,12 @@ abbrev pub uses_pin : ServedAs → Bool
 uses_pin Loose = false
 uses_pin how = true
 
+-- a pin was used: by a request, or as it was set
 abbrev pub is_use : Reply → Bool
 is_use (Served server how) = uses_pin how
+is_use (Pinned how) = true
 is_use reply = false
 
--- how many requests were served through a pin: so many numbers of use a table has given
+-- how often a pin was used: so many numbers of use a table has given
 abbrev pub uses : List Entry → ℕ
 uses entries = count_by (λ e. is_use e.reply) entries

@@ -15,8 +15,8 @@ mod stand;
 
 pub use backend::{Backend, BackendServer};
 pub use entry::Entry;
-pub use event::{Event, Request};
-pub use reply::{Refusal, Reply, ServedAs};
+pub use event::{Event, Request, SetPin};
+pub use reply::{PinnedAs, Refusal, Reply, ServedAs};
 pub use rule_list::RuleList;
 pub use shared::Shared;
 pub use stand::Stand;

@@ -21,6 +21,17 @@ pub enum ServedAs {
     Loose,
 }
 
+/// What became of a pin that was set.
+#[derive(Clone, Copy, Debug, PartialEq, Eq, Hash)]
+pub enum PinnedAs {
+    /// It was there.
+    Kept,
+    /// It was elsewhere, or had no server.
+    Moved,
+    /// There was none of its name.
+    Made,
+}
+
 /// Why an event was refused. It then changed nothing.
 #[derive(Clone, Copy, Debug, PartialEq, Eq)]
 pub enum Refusal {
@@ -36,6 +47,8 @@ pub enum Refusal {
     NotServing,
     /// No connection is open there.
     NotOpen,
+    /// A pin can't be made: the table is full, and keeps its pins.
+    TableFull,
     /// The plan is for another version of the table.
     Stale,
     /// The plan fails the check.
@@ -58,6 +71,7 @@ impl Refusal {
             Refusal::Full => 30,
             Refusal::NotServing => 31,
             Refusal::NotOpen => 32,
+            Refusal::TableFull => 60,
             Refusal::Stale => 70,
             Refusal::Bad(_) => 71,
             Refusal::NoServer => 80,
@@ -70,6 +84,14 @@ impl Refusal {
 pub enum Reply {
     /// The request's server.
     Served(ServerId, ServedAs),
+    /// The pin stands at the server of the event.
+    Pinned(PinnedAs),
+    /// There is no table that a pin could be set in.
+    NoTable,
+    /// The pin is gone.
+    Cleared,
+    /// There is no pin of the name.
+    NoPin,
     /// A connection is open.
     Opened,
     /// A connection has ended.
@@ -100,6 +122,10 @@ impl Clone for Reply {
     fn clone(&self) -> Result<Reply, AllocError> {
         Ok(match self {
             Reply::Served(server, how) => Reply::Served(*server, *how),
+            Reply::Pinned(how) => Reply::Pinned(*how),
+            Reply::NoTable => Reply::NoTable,
+            Reply::Cleared => Reply::Cleared,
+            Reply::NoPin => Reply::NoPin,
             Reply::Opened => Reply::Opened,
             Reply::Closed => Reply::Closed,
             Reply::Expired(count) => Reply::Expired(*count),

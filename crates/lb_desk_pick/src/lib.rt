@@ -16,4 +16,4 @@ mod servers;
 
 pub use pick::Pick;
 pub use picking::{loose_pick, pin_pick};
-pub use servers::{are_below, first_in, set_of};
+pub use servers::{are_below, are_members_below, first_in, set_of};

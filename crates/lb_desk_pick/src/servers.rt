@@ -1,9 +1,9 @@
 ghost use Rattle.std.specs.Prelude.{◌≡◌, ◌<◌, ◌≤◌, ◌-◌, All, IsTrue, ◌↔◌};
 ghost use Rattle.std.specs.List.{find, range_with_len};
-ghost use Rattle.lb_types.specs.Servers.{has};
+ghost use Rattle.lb_types.specs.Servers.{has, members};
 ghost use Rattle.server_state.specs.Farm.{set_of};
 
-use lb_types::{ServerId, ServerSet};
+use lb_types::{MAX_SERVERS, ServerId, ServerSet};
 
 /// The first server of the list that the set holds. It looks at each server of the list at most once.
 pub fn first_in(set: ServerSet, servers: &[ServerId]) -> Option<ServerId>
@@ -33,6 +33,18 @@ pub fn are_below(servers: &[ServerId], count: usize) -> bool
     ensures { IsTrue result ↔ All (λ server. server < count) servers.now }
 {
     servers.iter().all(|server| server.index() < count)
+}
+
+/// Whether each server of the set is one of the first `count`. It looks once at each server that none of these is.
+pub fn are_members_below(set: ServerSet, count: usize) -> bool
+    ensures { IsTrue result ↔ All (λ server. server < count) (members set) }
+{
+    for i in count..MAX_SERVERS {
+        if set.has(ServerId::new(i as u8)) {
+            return false;
+        }
+    }
+    true
 }
 
 /// The set's first server from number `from` on and below `end`, in the configuration's order.

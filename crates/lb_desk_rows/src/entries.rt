@@ -1,16 +1,18 @@
 //! The list of events, each with the reply that a backend owes it, as a journal would keep them.
 
 use dual_cert::read_plan;
-use lb_desk_model::{Entry, Event, Refusal, Reply, Request, RuleList, ServedAs, Shared};
-use lb_types::{Moment, ServerId};
-use pin_set::{KeyText, PinKey, Score};
+use lb_desk_model::{
+    Entry, Event, PinnedAs, Refusal, Reply, Request, RuleList, ServedAs, SetPin, Shared,
+};
+use lb_types::{Moment, ServerId, ServerSet};
+use pin_set::{KeyText, PinId, PinKey, Score};
 use rise_fall::Flip;
 use server_state::{AdminState, Change, Checked, Setting};
 use std::alloc::Global;
 use std::test::Fail;
 
 /// How many entries there are. The last two ask for the same.
-pub(crate) const COUNT: usize = 20;
+pub(crate) const COUNT: usize = 23;
 
 /// The version after the last of them: two pins are made, `a` goes, and a plan moves a pin.
 pub(crate) const VERSION: u64 = 4;
@@ -41,10 +43,13 @@ fn entry(alloc: Global, number: usize) -> Result<Entry, Fail> {
         3 => asked(alloc, 3, b"", &[b, a], Reply::Served(b, ServedAs::Loose)),
         4 => asked(alloc, 3, b"", &[a, b], Reply::Served(a, ServedAs::Loose)),
         5 => asked(alloc, 4, b"", &[none], refused(Refusal::NoSuchServer)),
-        16 => shown(alloc),
-        17 => installed(alloc, EARLY, refused(Refusal::Stale)),
-        18 => installed(alloc, PLAN, Reply::Installed(score())),
-        19 => installed(alloc, PLAN, refused(Refusal::Stale)),
+        16 => set_pin(alloc, b"k2", b, Reply::Pinned(PinnedAs::Kept)),
+        17 => set_pin(alloc, b"k1", none, refused(Refusal::NoSuchServer)),
+        18 => cleared(alloc, b"k9", Reply::NoPin),
+        19 => shown(alloc),
+        20 => installed(alloc, EARLY, refused(Refusal::Stale)),
+        21 => installed(alloc, PLAN, Reply::Installed(score())),
+        22 => installed(alloc, PLAN, refused(Refusal::Stale)),
         _ => Ok(steered(number, a, none)),
     }
 }
@@ -68,6 +73,30 @@ fn asked(
         cost: 1,
         moment: Moment::from_millis(moment),
     });
+    Ok(Entry { event, reply })
+}
+
+/// The name of the pin of this key that wants no servers.
+fn named(alloc: Global, key: &[u8]) -> Result<PinId, Fail> {
+    Ok(PinId {
+        key: PinKey::Text(KeyText::copied_from(alloc, key)?),
+        want: ServerSet::empty(),
+    })
+}
+
+/// The pin of this key is set at the server.
+fn set_pin(alloc: Global, key: &[u8], server: ServerId, reply: Reply) -> Result<Entry, Fail> {
+    let event = Event::Set(SetPin {
+        name: named(alloc, key)?,
+        server,
+        cost: 1,
+        moment: Moment::from_millis(5),
+    });
+    Ok(Entry { event, reply })
+}
+
+fn cleared(alloc: Global, key: &[u8], reply: Reply) -> Result<Entry, Fail> {
+    let event = Event::Clear(named(alloc, key)?);
     Ok(Entry { event, reply })
 }
 

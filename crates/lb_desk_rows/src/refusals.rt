@@ -8,6 +8,7 @@ const NUMBERS: &[(Refusal, u16)] = &[
     (Refusal::Full, 30),
     (Refusal::NotServing, 31),
     (Refusal::NotOpen, 32),
+    (Refusal::TableFull, 60),
     (Refusal::Stale, 70),
     (Refusal::Bad(CheckFault::NotShown), 71),
     (Refusal::NoServer, 80),

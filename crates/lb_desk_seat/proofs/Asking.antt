@@ -21,6 +21,7 @@ use Rattle.lb_desk_ports.specs.Movers.{PlansNow}
 use Rattle.lb_desk_ports.specs.Ports.{AddsAsk, asked_reply, opening_entries, opening_reply, shut_reply, shutting_entries}
 use Rattle.lb_desk_tie.specs.Receipts.{PassView}
 use Rattle.lb_desk_shared.specs.Calls.{AddsPlan, AddsStep, entries_of}
+use Rattle.lb_desk_steer.specs.Steering.{AddsAt}
 use Rattle.lb_desk_seat.specs.Replies.{Answers, asked_of}
 
 -- a step adds its entry
@@ -66,6 +67,19 @@ plan_adds backend old new (Err refused) plan err = ap (λ (p : PassView Entry). 
 does_expire : (old : State) (now : ℕ) (reply : Reply) (new : State) → Does old (Expire now) reply new → (count : ℕ) × (reply ≡ Expired count)
 does_expire old now (Expired count) new d = (count, refl)
 does_expire old now reply new d = absurd d
+
+-- an event, and before it an expiry at its moment
+pub adds_at : (moment : ℕ) (event : Event) (first second : Reply) (old mid new : List Entry)
+    → Answers (Expire moment) first → mid ≡ old ++ entry (Expire moment) first ∷ [] → new ≡ mid ++ entry event second ∷ []
+    → AddsAt moment event old new (Ok second)
+adds_at moment event first second old mid new expires before after =
+    let expired = does_expire expires.0 moment first expires.2.acted expires.2.does in
+    let expiry : List Entry = entry (Expire moment) (Expired expired.0) ∷ [] in
+    let gone : mid ≡ old ++ expiry = before ∙ ap (λ (r : Reply). old ++ entry (Expire moment) r ∷ []) expired.1 in (
+      expiry,
+      (expired.0, refl),
+      after ∙ ap (λ (es : List Entry). es ++ entry event second ∷ []) gone,
+    )
 
 does_serve : (old : State) (request : Request) (reply : Reply) (new : State) → Does old (Serve request) reply new
     → asked_reply (asked_of reply) ≡ reply

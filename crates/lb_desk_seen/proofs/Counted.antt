@@ -10,11 +10,14 @@ use Rattle.server_state.specs.declared.checked.Checked.TheVariants.{Took, Ignore
 use Rattle.lb_desk_model.specs.declared.backend.BackendServer.{BackendServer}
 use Rattle.lb_desk_model.specs.declared.entry.Entry.{Entry}
 use Rattle.lb_desk_model.specs.declared.event.Event.{Event}
-use Rattle.lb_desk_model.specs.declared.event.Event.TheVariants.{Serve, Open, Close, Expire, Check, Command, Snapshot, Install}
+use Rattle.lb_desk_model.specs.declared.event.Event.TheVariants.{Serve, Set, Clear, Open, Close, Expire, Check, Command, Snapshot, Install}
 use Rattle.lb_desk_model.specs.declared.event.Request.{Request}
-use Rattle.lb_desk_model.specs.declared.reply.Refusal.TheVariants.{NoSuchServer, Full, NotServing, NotOpen, Stale, Bad, NoServer}
+use Rattle.lb_desk_model.specs.declared.event.SetPin.{SetPin}
+use Rattle.lb_desk_model.specs.declared.reply.Refusal.TheVariants.{NoSuchServer, Full, NotServing, NotOpen, TableFull, Stale, Bad, NoServer}
 use Rattle.lb_desk_model.specs.declared.reply.Reply.{Reply}
-use Rattle.lb_desk_model.specs.declared.reply.Reply.TheVariants.{Served, Opened, Closed, Expired, Checked, Done, Sheet, Installed, Refused}
+use Rattle.lb_desk_model.specs.declared.reply.Reply.TheVariants.{Served, Pinned, NoTable, Cleared, NoPin, Opened, Closed, Expired, Checked, Done, Sheet, Installed, Refused}
+use Rattle.lb_desk_model.specs.declared.reply.PinnedAs.{PinnedAs}
+use Rattle.lb_desk_model.specs.declared.reply.PinnedAs.TheVariants as Put
 use Rattle.lb_desk_model.specs.declared.reply.ServedAs.{ServedAs}
 use Rattle.lb_desk_model.specs.declared.reply.ServedAs.TheVariants.{Kept, Moved, Made, Loose}
 use Rattle.lb_desk_model.specs.Histories.{History}
@@ -22,6 +25,7 @@ use Rattle.lb_desk_model.specs.Picks.{connections_at}
 use Rattle.lb_desk_model.specs.Seen.{Seen, seen, view_seen}
 use Rattle.lb_desk_model.specs.Serves.{Serves}
 use Rattle.lb_desk_model.specs.Servers.{with_setting}
+use Rattle.lb_desk_model.specs.Sets.{Sets}
 use Rattle.lb_desk_model.specs.States.{ServerState, State, SameView, opening, server_at_start, view_of, with_server}
 use Rattle.lb_desk_model.specs.Steps.{Does, Step}
 use Rattle.lb_desk_model.specs.Worn.{ends_one, is_use, is_worn, open_at, open_connections}
@@ -115,6 +119,11 @@ serves-open old request server Moved new s = ap open_in s.6
 serves-open old request server Made new s = ap open_in s.4
 serves-open old request server Loose new s = ap open_in s.3
 
+sets-open : (old : State) (set : SetPin) (how : PinnedAs) (new : State) → Sets old set how new → open_in new ≡ open_in old
+sets-open old set Put.Kept new s = ap open_in s.5
+sets-open old set Put.Moved new s = ap open_in s.5
+sets-open old set Put.Made new s = ap open_in s.2
+
 ended : (old : State) (server count : ℕ) (found : ServerState) (new : State) → slice_get old.servers server ≡ Some found → count + 1 ≡ found.connections
     → new ≡ with_server old server (record found { connections = count }) → Ended old Closed new
 ended old server count found new at less e =
@@ -144,6 +153,13 @@ does-counts old (Serve request) (Served server how) new d =
     inr (record { none_ends = refl; open_ones = same-open old new (serves-open old request server how new d.1) })
 does-counts old (Serve request) (Refused NoSuchServer) new d = unchanged old (Serve request) (Refused NoSuchServer) new refl d.1
 does-counts old (Serve request) (Refused NoServer) new d = unchanged old (Serve request) (Refused NoServer) new refl d.2
+does-counts old (Set set) (Pinned how) new d =
+    inr (record { none_ends = refl; open_ones = same-open old new (sets-open old set how new d.2) })
+does-counts old (Set set) NoTable new d = unchanged old (Set set) NoTable new refl d.2
+does-counts old (Set set) (Refused NoSuchServer) new d = unchanged old (Set set) (Refused NoSuchServer) new refl d.1
+does-counts old (Set set) (Refused TableFull) new d = unchanged old (Set set) (Refused TableFull) new refl d.3
+does-counts old (Clear name) Cleared new d = inr (record { none_ends = refl; open_ones = same-open old new (ap open_in d.new_is) })
+does-counts old (Clear name) NoPin new d = unchanged old (Clear name) NoPin new refl d.1
 does-counts old (Open server) Opened new d = inr (opened old server d.found new d.is d.new_is)
 does-counts old (Open server) (Refused NotServing) new d = unchanged old (Open server) (Refused NotServing) new refl d.1
 does-counts old (Open server) (Refused Full) new d = unchanged old (Open server) (Refused Full) new refl d.2

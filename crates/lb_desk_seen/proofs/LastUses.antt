@@ -9,17 +9,21 @@ use Rattle.lb_types_pins.proofs.Pairs.{AllPairs-nil}
 use Rattle.server_state.specs.declared.checked.Checked.TheVariants.{Took, Ignored}
 use Rattle.lb_desk_model.specs.declared.entry.Entry.{Entry}
 use Rattle.lb_desk_model.specs.declared.event.Event.{Event}
-use Rattle.lb_desk_model.specs.declared.event.Event.TheVariants.{Serve, Open, Close, Expire, Check, Command, Snapshot, Install}
+use Rattle.lb_desk_model.specs.declared.event.Event.TheVariants.{Serve, Set, Clear, Open, Close, Expire, Check, Command, Snapshot, Install}
 use Rattle.lb_desk_model.specs.declared.event.Request.{Request}
-use Rattle.lb_desk_model.specs.declared.reply.Refusal.TheVariants.{NoSuchServer, Full, NotServing, NotOpen, Stale, Bad, NoServer}
+use Rattle.lb_desk_model.specs.declared.event.SetPin.{SetPin}
+use Rattle.lb_desk_model.specs.declared.reply.Refusal.TheVariants.{NoSuchServer, Full, NotServing, NotOpen, TableFull, Stale, Bad, NoServer}
 use Rattle.lb_desk_model.specs.declared.reply.Reply.{Reply}
-use Rattle.lb_desk_model.specs.declared.reply.Reply.TheVariants.{Served, Opened, Closed, Expired, Checked, Done, Sheet, Installed, Refused}
+use Rattle.lb_desk_model.specs.declared.reply.Reply.TheVariants.{Served, Pinned, NoTable, Cleared, NoPin, Opened, Closed, Expired, Checked, Done, Sheet, Installed, Refused}
+use Rattle.lb_desk_model.specs.declared.reply.PinnedAs.{PinnedAs}
+use Rattle.lb_desk_model.specs.declared.reply.PinnedAs.TheVariants as Put
 use Rattle.lb_desk_model.specs.declared.reply.ServedAs.{ServedAs}
 use Rattle.lb_desk_model.specs.declared.reply.ServedAs.TheVariants.{Kept, Moved, Made, Loose}
 use Rattle.pin_set.specs.declared.table_pin.TablePin.{TablePin}
 use Rattle.lb_desk_model.specs.Histories.{History}
 use Rattle.lb_desk_model.specs.Installs.{moved_to}
 use Rattle.lb_desk_model.specs.Serves.{Serves, is_full, staying, moment_of, new_pin, used_at}
+use Rattle.lb_desk_model.specs.Sets.{Sets, set_pin}
 use Rattle.lb_desk_model.specs.States.{State, opening}
 use Rattle.lb_desk_model.specs.Steps.{Does, Step, has_expired}
 use Rattle.lb_desk_seen.specs.Uses.{PinsAreInOrderOfUse}
@@ -53,6 +57,12 @@ put_last : (low : ℕ) (before : List TablePin) (found : TablePin) (after : List
 put_last low [] found after p high now is above r =
     from_lower low found.last_use (after ++ p ∷ []) now r.0 (pushed found.last_use after p high now is above r.1)
 put_last low (b ∷ before) found after p high now is above r = (r.0, put_last b.last_use before found after p high now is above r.1)
+
+-- the found pin is taken out
+taken_out : (low : ℕ) (before : List TablePin) (found : TablePin) (after : List TablePin) (high : ℕ)
+    → Rises low (before ++ found ∷ after) high → Rises low (before ++ after) high
+taken_out low [] found after high r = from_lower low found.last_use after high r.0 r.1
+taken_out low (b ∷ before) found after high r = (r.0, taken_out b.last_use before found after high r.1)
 
 without_first : (low : ℕ) (ps : List TablePin) (high : ℕ) → Rises low ps high → Rises low (drop 1 ps) high
 without_first low [] high r = r
@@ -103,10 +113,32 @@ serves-rise old request server Made new s r =
 serves-rise old request server Loose new s r =
     rw s.3 (to_higher 0 old.pins old.latest (moment_of old request.moment) (moment_after old request.moment) r)
 
+sets-rise : (old : State) (set : SetPin) (how : PinnedAs) (new : State) → Sets old set how new → InOrder old → InOrder new
+sets-rise old set Put.Kept new s r =
+    let now = moment_of old set.moment in
+    let parted : Rises 0 (s.0 ++ s.1 ∷ s.2) old.latest = rw (← s.3.is) r in
+    rw s.5 (put_last 0 s.0 s.1 s.2 (used_at s.1 set.server now) old.latest now refl (moment_after old set.moment) parted)
+sets-rise old set Put.Moved new s r =
+    let now = moment_of old set.moment in
+    let parted : Rises 0 (s.0 ++ s.1 ∷ s.2) old.latest = rw (← s.3.is) r in
+    rw s.5 (put_last 0 s.0 s.1 s.2 (used_at s.1 set.server now) old.latest now refl (moment_after old set.moment) parted)
+sets-rise old set Put.Made new s r =
+    let now = moment_of old set.moment in
+    rw s.2 (pushed 0 (staying old) (set_pin set now) old.latest now refl (moment_after old set.moment)
+    (staying_rise (is_full old) 0 old.pins old.latest r))
+
 does-rise : (old : State) (event : Event) (reply : Reply) (new : State) → Does old event reply new → InOrder old → InOrder new
 does-rise old (Serve request) (Served server how) new d r = serves-rise old request server how new d.1 r
 does-rise old (Serve request) (Refused NoSuchServer) new d r = rw d.1 r
 does-rise old (Serve request) (Refused NoServer) new d r = rw d.2 r
+does-rise old (Set set) (Pinned how) new d r = sets-rise old set how new d.2 r
+does-rise old (Set set) NoTable new d r = rw d.2 r
+does-rise old (Set set) (Refused NoSuchServer) new d r = rw d.1 r
+does-rise old (Set set) (Refused TableFull) new d r = rw d.3 r
+does-rise old (Clear name) Cleared new d r =
+    let parted : Rises 0 (d.before ++ d.found ∷ d.after) old.latest = rw (← d.stands.is) r in
+    rw d.new_is (taken_out 0 d.before d.found d.after old.latest parted)
+does-rise old (Clear name) NoPin new d r = rw d.1 r
 does-rise old (Open server) Opened new d r = rw d.new_is r
 does-rise old (Open server) (Refused NotServing) new d r = rw d.1 r
 does-rise old (Open server) (Refused Full) new d r = rw d.2 r

@@ -1,5 +1,5 @@
 -- Whether an event changed the view, by its reply.
-use Rattle.std.proofs.Common.{◌≡◌, ◌↔◌, ℕ, ◌+◌, ◌-◌, zero, suc, Bool, true, not, Option, Some, List, [], ◌∷◌, ◌++◌, length, map, slice_get, slice_set, refl, sym, ap, ◌∙◌, subst, inl, inr, arith}
+use Rattle.std.proofs.Common.{◌≡◌, ◌↔◌, ℕ, ◌+◌, ◌-◌, zero, suc, Bool, true, not, Option, Some, List, [], ◌∷◌, ◌++◌, length, length-append, map, slice_get, slice_set, refl, sym, ap, ◌∙◌, subst, inl, inr, arith}
 use Rattle.std.specs.Prelude.{filter, count_by}
 use Rattle.std.specs.Option.{option_map_or}
 use Rattle.std.specs.List.Sorted.{IsPermutation}
@@ -7,6 +7,7 @@ use Rattle.std.proofs.lemmas.Bool.{false≢true}
 use Rattle.std.proofs.lemmas.List.{length-map}
 use Rattle.std.proofs.lemmas.List.Sorted.{IsPermutation-refl, length_permutation}
 use Rattle.pin_set.specs.declared.pin.Pin.{Pin}
+use Rattle.pin_set.specs.declared.pin.PinId.{PinId}
 use Rattle.pin_set.specs.declared.totals.Score.{Score}
 use Rattle.pin_set.specs.declared.view.ViewServer.{ViewServer}
 use Rattle.pin_set.specs.Pins.{honoured}
@@ -15,11 +16,14 @@ use Rattle.dual_cert_plan.specs.Plans.{PlanParts}
 use Rattle.server_state.specs.Farm.{FarmView, capacity_of}
 use Rattle.server_state.specs.declared.checked.Checked.TheVariants.{Took, Ignored}
 use Rattle.lb_desk_model.specs.declared.event.Event.{Event}
-use Rattle.lb_desk_model.specs.declared.event.Event.TheVariants.{Serve, Open, Close, Expire, Check, Command, Snapshot, Install}
+use Rattle.lb_desk_model.specs.declared.event.Event.TheVariants.{Serve, Set, Clear, Open, Close, Expire, Check, Command, Snapshot, Install}
 use Rattle.lb_desk_model.specs.declared.event.Request.{Request}
-use Rattle.lb_desk_model.specs.declared.reply.Refusal.TheVariants.{NoSuchServer, Full, NotServing, NotOpen, Stale, Bad, NoServer}
+use Rattle.lb_desk_model.specs.declared.event.SetPin.{SetPin}
+use Rattle.lb_desk_model.specs.declared.reply.Refusal.TheVariants.{NoSuchServer, Full, NotServing, NotOpen, TableFull, Stale, Bad, NoServer}
 use Rattle.lb_desk_model.specs.declared.reply.Reply.{Reply}
-use Rattle.lb_desk_model.specs.declared.reply.Reply.TheVariants.{Served, Opened, Closed, Expired, Checked, Done, Sheet, Installed, Refused}
+use Rattle.lb_desk_model.specs.declared.reply.Reply.TheVariants.{Served, Pinned, NoTable, Cleared, NoPin, Opened, Closed, Expired, Checked, Done, Sheet, Installed, Refused}
+use Rattle.lb_desk_model.specs.declared.reply.PinnedAs.{PinnedAs}
+use Rattle.lb_desk_model.specs.declared.reply.PinnedAs.TheVariants as Put
 use Rattle.lb_desk_model.specs.declared.reply.ServedAs.{ServedAs}
 use Rattle.lb_desk_model.specs.declared.reply.ServedAs.TheVariants.{Kept, Moved, Made, Loose}
 use Rattle.pin_set.specs.declared.table_pin.TablePin.{TablePin}
@@ -27,6 +31,7 @@ use Rattle.lb_desk_model.specs.Installs.{Installs}
 use Rattle.lb_desk_model.specs.Seen.{Seen, view_seen}
 use Rattle.lb_desk_model.specs.Serves.{Serves, MovesPin, want_of, moment_of, new_pin, staying, used_at}
 use Rattle.lb_desk_model.specs.Servers.{with_setting, with_result}
+use Rattle.lb_desk_model.specs.Sets.{Clears, Sets, set_pin}
 use Rattle.lb_desk_model.specs.States.{ServerState, State, SameView, farm_of, opening, seen_server, serving, usable, view_of, view_server, with_server}
 use Rattle.lb_desk_model.specs.Steps.{Does, has_expired}
 use Rattle.lb_desk_law.proofs.Apart.{Apart, all_moved, history-apart}
@@ -114,6 +119,52 @@ serves-told old request server Kept new apart s = let same = serves-kept old req
 serves-told old request server Moved new apart s = (serves-moved old request server new apart s, λ e. absurd e)
 serves-told old request server Made new apart s = (serves-made old request server new s, λ e. absurd e)
 serves-told old request server Loose new apart s = let same = serves-loose old request server new s in (λ e. tt, λ e. same)
+
+-- ---- pins that are set and cleared
+
+sets-kept : (old : State) (set : SetPin) (new : State) → Sets old set Put.Kept new → Same old new
+sets-kept old set new s =
+    let used = used_at s.1 set.server (moment_of old set.moment) in
+    let stood : used.pin ≡ s.1.pin = ap (λ (place : Option ℕ). record s.1.pin { place = place }) (sym s.4) in
+    let order = kept-permuted s.0 s.1 s.2 used stood in
+    reordered old new (s.0 ++ s.2 ++ used ∷ []) (ap servers_of s.5) (ap backups_of s.5) (ap pins_of s.5) (rw s.3.is order)
+
+sets-moved : (old : State) (set : SetPin) (new : State) → Apart old.pins → Sets old set Put.Moved new → Same old new → ⊥
+sets-moved old set new apart s same =
+    let used = used_at s.1 set.server (moment_of old set.moment) in
+    let stood : Apart (s.0 ++ s.1 ∷ s.2) = rw s.3.is at apart in
+    let old_pins : (view_of old).pins ≡ map pin_of (s.0 ++ s.1 ∷ s.2) = ap (map pin_of) s.3.is in
+    let new_pins : (view_of new).pins ≡ map pin_of (s.0 ++ s.2 ++ used ∷ []) = ap (map pin_of) (ap pins_of s.5) in
+    let order : IsPermutation (map pin_of (s.0 ++ s.1 ∷ s.2)) (map pin_of (s.0 ++ s.2 ++ used ∷ [])) =
+    subst (λ (ps : List Pin). IsPermutation ps (map pin_of (s.0 ++ s.2 ++ used ∷ []))) old_pins
+    (subst (λ (ps : List Pin). IsPermutation (view_of old).pins ps) new_pins same.pins) in
+    let is : used.pin ≡ s.1.pin = moved-same s.0 s.1 s.2 used refl stood order in
+    s.4 (sym (ap (λ (p : Pin). p.place) is))
+
+sets-made : (old : State) (set : SetPin) (new : State) → Sets old set Put.Made new → Same old new → ⊥
+sets-made old set new s same =
+    let used = set_pin set (moment_of old set.moment) in
+    let new_pins : (view_of new).pins ≡ map pin_of (staying old ++ used ∷ []) = ap (map pin_of) (ap pins_of s.2) in
+    let order : IsPermutation (map pin_of old.pins) (map pin_of (staying old ++ used ∷ [])) =
+    subst (λ (ps : List Pin). IsPermutation (view_of old).pins ps) new_pins same.pins in
+    made-differs set.name old.pins (staying old) used refl s.0 order
+
+sets-told : (old : State) (set : SetPin) (how : PinnedAs) (new : State) → Apart old.pins → Sets old set how new
+    → Told old (Set set) (Pinned how) new
+sets-told old set Put.Kept new apart s = let same = sets-kept old set new s in (λ e. tt, λ e. same)
+sets-told old set Put.Moved new apart s = (sets-moved old set new apart s, λ e. absurd e)
+sets-told old set Put.Made new apart s = (sets-made old set new s, λ e. absurd e)
+
+clears-changes : (old : State) (name : PinId) (new : State) → Clears old name new → Same old new → ⊥
+clears-changes old name new c same =
+    let lengths = length_permutation (view_of old).pins (view_of new).pins same.pins in
+    let old_many : length (view_of old).pins ≡ length old.pins = length-map old.pins pin_of in
+    let new_many : length (view_of new).pins ≡ length new.pins = length-map new.pins pin_of in
+    let was : length old.pins ≡ length (c.before ++ c.found ∷ c.after) = ap length c.stands.is in
+    let left : length new.pins ≡ length (c.before ++ c.after) = ap (λ (s : State). length s.pins) c.new_is in
+    let one = length-append c.before (c.found ∷ c.after) in
+    let two = length-append c.before c.after in
+    omega arith
 
 -- ---- servers
 
@@ -216,6 +267,12 @@ does-told : (old : State) (event : Event) (reply : Reply) (new : State) → Apar
 does-told old (Serve request) (Served server how) new apart d = serves-told old request server how new apart d.1
 does-told old (Serve request) (Refused NoSuchServer) new apart d = kept old (Serve request) (Refused NoSuchServer) new tt (same_view-equal old new d.1)
 does-told old (Serve request) (Refused NoServer) new apart d = kept old (Serve request) (Refused NoServer) new tt (same_view-equal old new d.2)
+does-told old (Set set) (Pinned how) new apart d = sets-told old set how new apart d.2
+does-told old (Set set) NoTable new apart d = kept old (Set set) NoTable new tt (same_view-equal old new d.2)
+does-told old (Set set) (Refused NoSuchServer) new apart d = kept old (Set set) (Refused NoSuchServer) new tt (same_view-equal old new d.1)
+does-told old (Set set) (Refused TableFull) new apart d = kept old (Set set) (Refused TableFull) new tt (same_view-equal old new d.3)
+does-told old (Clear name) Cleared new apart d = (clears-changes old name new d, λ e. absurd e)
+does-told old (Clear name) NoPin new apart d = kept old (Clear name) NoPin new tt (same_view-equal old new d.1)
 does-told old (Open server) Opened new apart d =
     kept old (Open server) Opened new tt
     (same_views old new (ap view_of d.new_is ∙ counted-view old server (d.found.connections + 1) d.found d.is))

@@ -20,7 +20,7 @@ abbrev pub WornIsExact : Type 0
 WornIsExact = (shown : Seen) (entries : ℕ) (event : Event)
     → (is_worn shown entries event ≡ true) ↔ ((2 ^ 63 ≤ entries + open_connections shown) × (EndsOne shown event → ⊥))
 
--- in every history no more steps change the view, no more requests use a pin and no more connections are open than there are entries
+-- in every history no more steps change the view, no more steps use a pin and no more connections are open than there are entries
 pub record AreFew (entries : List Entry) (state : State) : Type 0 where
   pub versions : state.version ≤ length entries
   pub uses : uses entries ≤ length entries

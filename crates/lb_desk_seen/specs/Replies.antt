@@ -6,7 +6,8 @@ use Rattle.lb_desk_model.specs.declared.entry.Entry.{Entry}
 use Rattle.lb_desk_model.specs.declared.event.Event.{Event}
 use Rattle.lb_desk_model.specs.declared.event.Event.TheVariants.{Command}
 use Rattle.lb_desk_model.specs.declared.reply.Reply.{Reply}
-use Rattle.lb_desk_model.specs.declared.reply.Reply.TheVariants.{Served, Expired, Checked, Done, Installed}
+use Rattle.lb_desk_model.specs.declared.reply.Reply.TheVariants.{Served, Pinned, Cleared, Expired, Checked, Done, Installed}
+use Rattle.lb_desk_model.specs.declared.reply.PinnedAs.TheVariants as Put
 use Rattle.lb_desk_model.specs.declared.reply.ServedAs.TheVariants.{Moved, Made}
 use Rattle.lb_desk_model.specs.Backends.{BackendParts}
 use Rattle.lb_desk_model.specs.Histories.{History}
@@ -23,6 +24,10 @@ abbrev pub KeepsView : FarmView → Event → Reply → FarmView → Type 0
 -- a pin is at another place than before, or wasn't there
 KeepsView before event (Served server Moved) after = ⊥
 KeepsView before event (Served server Made) after = ⊥
+KeepsView before event (Pinned Put.Moved) after = ⊥
+KeepsView before event (Pinned Put.Made) after = ⊥
+-- a pin went
+KeepsView before event Cleared after = ⊥
 -- no pin went
 KeepsView before event (Expired count) after = count ≡ 0
 KeepsView before event (Checked (Took flip)) after = SameUsable before after
@@ -30,7 +35,8 @@ KeepsView before (Command change) Done after =
     SameUsable before after × (capacity_of after change.server ≡ capacity_of before change.server)
 -- no pin was moved
 KeepsView before event (Installed score) after = score.moved ≡ 0
--- a pin that was kept, a request without one, connections, results that were ignored, sheets and refusals
+-- a pin that was kept, a request without one, a set without a table, a clear without a pin, connections, results that were ignored,
+-- sheets and refusals
 KeepsView before event reply after = Unit {0}
 
 -- what an event does behind a history leaves the view that is seen exactly where its reply says so

@@ -6,7 +6,7 @@ pub fn pins_are_in_order_of_use()
     ensures { PinsAreInOrderOfUse }
 {}
 
-/// Versions, uses and open connections are at most as many as the entries. Where no event was taken at which a desk is
+/// Versions, uses of pins and open connections are at most as many as the entries. Where no event was taken at which a desk is
 /// exhausted, the version is at most 2^63, and entries and open connections together are at most 2^63 + 1.
 pub fn counts_fit()
     ensures worn { WornIsExact }

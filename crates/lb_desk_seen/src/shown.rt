@@ -14,7 +14,7 @@ pub fn changes_are_seen()
 {}
 
 /// The reply to an event after a history says whether the event changed the view, and so the version. It did exactly where a pin was
-/// moved or made, pins went, a plan moved some, or other servers are usable or another capacity is set.
+/// moved, made or cleared, pins went, a plan moved some, or other servers are usable or another capacity is set.
 pub fn replies_tell_changes()
     ensures views { RepliesTellViews }
     ensures versions { RepliesTellVersions }

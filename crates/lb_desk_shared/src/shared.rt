@@ -69,7 +69,7 @@ impl<S: BuildHasher, B: Naming> SharedDesk<S, B> {
 
     /// A pass for one more caller, with no receipt. It is no event, and allocates nothing.
     ///
-    /// Refused only as `Worn`, which comes once 2^64 - 1 passes were given out.
+    /// Refused only as `Worn`, which comes once 2^64 - 1 passes were given out; no clause outside the crate says so.
     pub fn enter<R: Wait>(&self, rt: &R) -> Result<Pass<Entry, B>, Refused>
         ensures pass { IfOk result (λ pass. pass ≡ new_pass self.now) }
         ensures refused { IfErr result (λ refused. refused ≡ Refused.Worn) }
@@ -311,8 +311,9 @@ impl<S: BuildHasher + Drop, B: Naming> SharedDesk<S, B> {
 
     /// Closes the desk with all passes that it gave out. It costs a few machine instructions a pass, and allocates nothing.
     ///
-    /// Refused with 82 exactly if fewer passes come back than were given out, and with 83 exactly if they all do and a connection is
-    /// open. Then the passes are handed back as they were, with the desk, which has this number. No type says that, so no clause does.
+    /// Refused with 82 if fewer passes come back than were given out, and otherwise with 83 if a connection is open. Then the passes are
+    /// handed back as they were, with the desk, which has this number. No type says that, so no clause does. If it isn't refused, no connection
+    /// is open, and the passes have all receipts; that no pass without a receipt is missing, no clause outside the crate says.
     pub fn close(self, passes: Vec<Pass<Entry, B>>) -> Result<Closing, StillOut<S, B>>
         requires { AreOf self passes.items }
         ensures closes { IfOk result (λ closing. Closes (B.opening self) passes.items closing) }

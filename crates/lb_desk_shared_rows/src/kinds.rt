@@ -29,6 +29,7 @@ pub(crate) enum Kind {
 fn kind_of(entry: &Entry) -> Kind {
     match &entry.event {
         Event::Serve(_) => served(&entry.reply),
+        Event::Set(_) | Event::Clear(_) => Kind::Other,
         Event::Open(_) => Kind::Open,
         Event::Close(_) => Kind::Close,
         Event::Expire(_) => Kind::Expire,

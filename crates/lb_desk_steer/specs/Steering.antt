@@ -1,9 +1,10 @@
 -- What an operator's call makes: an event of the machine in `lb_desk_model`, with its reply. And of which moment in a backend's
 -- history a copy is. Our own words.
-use Rattle.std.specs.Prelude.{◌≡◌, ℕ, ◌+◌, List, [], ◌∷◌, ◌++◌, length, drop, Result, Ok, Err}
+use Rattle.std.specs.Prelude.{◌≡◌, ◌⊎◌, ℕ, ◌+◌, List, [], ◌∷◌, ◌++◌, length, drop, Result, Ok, Err}
 use Rattle.pin_set.specs.declared.table_pin.TablePin.{TablePin}
 use Rattle.server_state.specs.declared.change.Change.{Change}
 use Rattle.lb_desk_model.specs.declared.entry.Entry.{Entry}
+use Rattle.lb_desk_model.specs.declared.event.Event.{Event}
 use Rattle.lb_desk_model.specs.declared.event.Event.TheVariants.{Command}
 use Rattle.lb_desk_model.specs.declared.reply.Reply.{Reply}
 use Rattle.lb_desk_model.specs.Backends.{BackendParts}
@@ -11,11 +12,20 @@ use Rattle.lb_desk_model.specs.Histories.{History}
 use Rattle.lb_desk_model.specs.States.{State, opening}
 use Rattle.lb_desk_ports.specs.declared.refused.Refused.{Refused}
 use Rattle.lb_desk_ports.specs.Calls.{entry}
+use Rattle.lb_desk_ports.specs.Ports.{IsExpiry}
 
 -- the entries that commanding the change adds
 abbrev pub commanding_entries : Change → Result Reply Refused → List Entry
 commanding_entries change (Ok reply) = entry (Command change) reply ∷ []
 commanding_entries change (Err refused) = []
+
+-- Making the event at this moment adds the entry of an expiry at the moment, and then that of the event. Where the second was refused,
+-- the first stands
+abbrev pub AddsAt : ℕ → Event → List Entry → List Entry → Result Reply Refused → Type 0
+AddsAt moment event old new (Ok reply) =
+    (expiry : List Entry) × IsExpiry moment expiry × (new ≡ old ++ expiry ++ entry event reply ∷ [])
+AddsAt moment event old new (Err refused) =
+    (new ≡ old) ⊎ ((expiry : List Entry) × IsExpiry moment expiry × (new ≡ old ++ expiry))
 
 -- ---- copies
 

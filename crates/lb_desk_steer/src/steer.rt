@@ -1,17 +1,19 @@
 ghost use Rattle.std.specs.Prelude.{◌≡◌, ◌++◌, IfOk};
+ghost use Rattle.lb_desk_model.specs.declared.event.Event.TheVariants.{Set, Clear};
 ghost use Rattle.lb_desk_model.specs.Backends.{BackendParts};
 ghost use Rattle.lb_desk_ports.specs.Calls.{after_call};
-ghost use Rattle.lb_desk_steer.specs.Steering.{ArePinsAfter, IsJournalAfter, commanding_entries};
+ghost use Rattle.lb_desk_steer.specs.Steering.{AddsAt, ArePinsAfter, IsJournalAfter, commanding_entries};
 
 use crate::JournalCopy;
-use lb_desk_model::Reply;
+use lb_desk_model::{Reply, SetPin};
 use lb_desk_ports::{Mover, Refused};
-use pin_set::TablePin;
+use lb_types::Moment;
+use pin_set::{PinId, TablePin};
 use server_state::Change;
 use std::alloc::{AllocError, Global};
 
 /// A backend, as a caller that carries out an operator's commands sees it. A call that is refused when out of memory or for wear
-/// makes no event.
+/// makes no event, except for the first of the two of `set_pin` and of `clear_pin`.
 pub trait Steer<R>: Mover<R> {
     /// The backend, as it opened.
     ghost backend: { Self → BackendParts };
@@ -20,6 +22,23 @@ pub trait Steer<R>: Mover<R> {
     /// such server; 12, its health is set and it isn't checked; 11, the number is out of range.
     fn command(&mut self, rt: &R, change: Change) -> Result<Reply, Refused>
         ensures entries { Self.entries self.new ≡ Self.entries self.old ++ commanding_entries change result }
+        ensures refusals { Self.refusals self.new ≡ after_call result (Self.refusals self.old) }
+        ensures planned_now { Self.planned_now self.new ≡ Self.planned_now self.old }
+        ensures backend { backend self.new ≡ backend self.old };
+
+    /// Has a pin stand at a server: first pins go that weren't used for long at the pin's moment, and then the pin is set. It answers
+    /// `Reply::Pinned`; `Reply::NoTable` where the backend has no table; or `Reply::Refused`: 10, there is no such server; 60, the table
+    /// is full and keeps its pins.
+    fn set_pin(&mut self, rt: &R, pin: SetPin) -> Result<Reply, Refused>
+        ensures entries { AddsAt pin.moment (Set pin) (Self.entries self.old) (Self.entries self.new) result }
+        ensures refusals { Self.refusals self.new ≡ after_call result (Self.refusals self.old) }
+        ensures planned_now { Self.planned_now self.new ≡ Self.planned_now self.old }
+        ensures backend { backend self.new ≡ backend self.old };
+
+    /// Has the pin of this name go: first pins go that weren't used for long at the moment, and then this one. It answers
+    /// `Reply::Cleared`, or `Reply::NoPin` where there is none of that name.
+    fn clear_pin(&mut self, rt: &R, name: PinId, moment: Moment) -> Result<Reply, Refused>
+        ensures entries { AddsAt moment (Clear name) (Self.entries self.old) (Self.entries self.new) result }
         ensures refusals { Self.refusals self.new ≡ after_call result (Self.refusals self.old) }
         ensures planned_now { Self.planned_now self.new ≡ Self.planned_now self.old }
         ensures backend { backend self.new ≡ backend self.old };

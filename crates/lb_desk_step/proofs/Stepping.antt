@@ -3,7 +3,7 @@ use Rattle.std.proofs.Common.{◌≡◌, ◌≤◌, ◌<◌, ◌^◌, ℕ, ◌+�
 use Rattle.std.proofs.lemmas.Bool.{leb-false, false≢true}
 use Rattle.lb_desk_model.specs.declared.entry.Entry.{Entry}
 use Rattle.lb_desk_model.specs.declared.event.Event.{Event}
-use Rattle.lb_desk_model.specs.declared.event.Event.TheVariants.{Serve, Open, Close, Expire, Check, Command, Snapshot, Install}
+use Rattle.lb_desk_model.specs.declared.event.Event.TheVariants.{Serve, Set, Clear, Open, Close, Expire, Check, Command, Snapshot, Install}
 use Rattle.lb_desk_model.specs.declared.reply.Reply.{Reply}
 use Rattle.lb_desk_model.specs.Backends.{BackendParts, IsBackend}
 use Rattle.lb_desk_model.specs.Seen.{Seen, Steps, seen}
@@ -57,6 +57,8 @@ numbers core journal open_ones parts room =
 pub can_count : (core : CoreView) (journal : TailView Entry) (open_ones : ℕ) (event : Event) → AgreeParts core journal open_ones
     → is_worn_for (desk_of core journal) event ≡ false → CanCount core event
 can_count core journal open_ones (Serve request) parts fresh = numbers core journal open_ones parts (below core.shown (taken (desk_of core journal)) fresh)
+can_count core journal open_ones (Set set) parts fresh = numbers core journal open_ones parts (below core.shown (taken (desk_of core journal)) fresh)
+can_count core journal open_ones (Clear name) parts fresh = numbers core journal open_ones parts (below core.shown (taken (desk_of core journal)) fresh)
 can_count core journal open_ones (Open server) parts fresh = numbers core journal open_ones parts (below core.shown (taken (desk_of core journal)) fresh)
 can_count core journal open_ones (Close server) parts fresh = tt
 can_count core journal open_ones (Expire now) parts fresh = numbers core journal open_ones parts (below core.shown (taken (desk_of core journal)) fresh)

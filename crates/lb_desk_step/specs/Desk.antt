@@ -4,7 +4,7 @@ use Rattle.std.specs.Prelude.{◌≡◌, ℕ, ◌+◌, Bool, true, false, List, 
 use Rattle.dual_cert_plan.specs.Plans.{PlanParts}
 use Rattle.lb_desk_model.specs.declared.entry.Entry.{Entry}
 use Rattle.lb_desk_model.specs.declared.event.Event.{Event}
-use Rattle.lb_desk_model.specs.declared.event.Event.TheVariants.{Serve, Snapshot, Install}
+use Rattle.lb_desk_model.specs.declared.event.Event.TheVariants.{Serve, Set, Snapshot, Install}
 use Rattle.lb_desk_model.specs.declared.reply.Reply.{Reply}
 use Rattle.lb_desk_model.specs.Backends.{BackendParts, IsBackend}
 use Rattle.lb_desk_model.specs.Seen.{Seen, Steps, seen}
@@ -44,6 +44,7 @@ is_worn_for desk event = is_worn desk.shown (taken desk) event
 -- the event may need memory: for a pin, a sheet, or the check of a plan
 abbrev pub may_take_memory : Event → Bool
 may_take_memory (Serve request) = true
+may_take_memory (Set set) = true
 may_take_memory Snapshot = true
 may_take_memory (Install plan) = true
 may_take_memory event = false

@@ -54,6 +54,8 @@ fn act<S: BuildHasher>(
 {
     match event {
         Event::Serve(request) => core.serve(request),
+        Event::Set(set) => core.set(&*set),
+        Event::Clear(name) => Ok(core.clear(&*name)),
         Event::Open(server) => Ok(core.open_connection(*server)),
         Event::Close(server) => Ok(core.close_connection(*server)),
         Event::Expire(now) => Ok(core.expire(*now)),

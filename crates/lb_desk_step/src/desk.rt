@@ -82,7 +82,7 @@ impl<S: BuildHasher> Desk<S> {
     /// Takes the event as one step of the backend, and journals it with its reply. It costs what the event costs at the core, and
     /// a few machine instructions.
     ///
-    /// Refused when out of memory, as a Serve, a Snapshot or an Install may be, and as `Worn` (81) exactly where `is_worn` says so;
+    /// Refused when out of memory, as a Serve, a Set, a Snapshot or an Install may be, and as `Worn` (81) exactly where `is_worn` says so;
     /// then nothing has changed. The end of an open connection is never refused.
     pub fn advance(&mut self, mut event: Event) -> Result<Taken, Refused>
         ensures takes { IfOk result (λ taken. Takes self.old event taken.reply self.new) }

@@ -6,7 +6,7 @@
 //! is closed.
 //!
 //! Promised: where `run_config` answers `Ok`, each backend of the configuration has had one desk, which opened as that backend. It was
-//! closed as `lb_desk_shared` promises, so that the receipts of its threads share out one history of the backend, and a line for it went
+//! closed as `lb_desk_shared` promises, so that the receipts of its passes share out one history of the backend, and a line for it went
 //! out. Its journal had the size that is configured. `run_text` answers true only if that holds of the configuration that the text is. The
 //! words are in `specs/Runs.antt` and `specs/Jobs.antt`. No clause says which threads run, when they end, and what sockets do; that is
 //! tested. Start at `run_config`.

@@ -13,6 +13,7 @@ use lb_desk_model::Backend;
 use lb_desk_planner::Bell;
 use lb_desk_ports::Refused;
 use lb_run_floor::{Desks, Floor, Host, Seating, SharedGate, leave_all, seats};
+use lb_types::Moment;
 use std::alloc::{AllocError, Global};
 use std::sync::atomic::{AtomicBool, Ordering};
 use std::thread;
@@ -78,12 +79,16 @@ fn wait_for_workers<R: Host, D: Desks, G: Drop>(rt: &R, floor: &Floor<'_, D, G>)
         if floor.roster.is_empty() {
             break;
         }
-        let now = match floor.start.elapsed(rt) {
-            Ok(passed) => u64::try_from(passed.as_millis()).unwrap_or(u64::MAX),
-            Err(_) => 0,
-        };
-        floor.roster.cut_off_late(rt, now.max(1));
+        floor.roster.cut_off_late(rt, millis_of(rt, floor).max(1));
         thread::sleep(rt, Duration::from_millis(LOOK_MILLIS));
+    }
+}
+
+/// How many milliseconds have passed since the start from which the clocks of all threads count; 0 where the clock can't be read.
+fn millis_of<R: Host, D: Desks, G: Drop>(rt: &R, floor: &Floor<'_, D, G>) -> u64 {
+    match floor.start.elapsed(rt) {
+        Ok(passed) => u64::try_from(passed.as_millis()).unwrap_or(u64::MAX),
+        Err(_) => 0,
     }
 }
 
@@ -140,8 +145,9 @@ fn answer_each<R: Host, D: Seating<R>, G: SharedGate<R>>(
         let Some(stream) = listener.next_connection(rt, is_over) else {
             break;
         };
+        let console = console.at(Moment::from_millis(millis_of(rt, floor)));
         let mut line = LineStream::new(rt, is_over, stream);
-        let next = serve_connection(rt, floor.alloc, console, seats, bells, &mut line);
+        let next = serve_connection(rt, floor.alloc, &console, seats, bells, &mut line);
         if next == Next::Stop {
             floor.stop_or_cut(rt);
         }

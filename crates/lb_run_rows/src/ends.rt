@@ -4,7 +4,7 @@ use http_relay_serve::{Cause, DropCause, Outcome, Worker};
 use http_relay_socket::StreamLimits;
 use http_relay_system::{SocketDialer, SystemClock};
 use http_relay_wire::WireFault;
-use http_relay_work::{Leavers, Relay, serve_arrival};
+use http_relay_work::{Leavers, Relay, end_served, over_wire, serve_arrival};
 use lb_desk_ports::{OpenGate, PortScript, ScriptedPort};
 use std::net::{Net, TcpListener, TcpStream};
 use std::sync::Wait;
@@ -109,16 +109,20 @@ fn serve<'a, R: Net<Stream = TcpStream> + Clock + Wait>(
     }
     let mut room = [0; HEAD_ROOM];
     let mut leavers = Leavers::new(rt.alloc());
-    let outcome = serve_arrival(
+    let served = serve_arrival(
         waits,
         rt.alloc(),
         relay,
         &mut worker,
-        arrival,
+        over_wire(arrival),
         &mut ports,
         &mut room,
-        &mut leavers,
     );
+    let mut outcome = None;
+    if let Some(served) = served {
+        outcome = Some(served.outcome);
+        end_served(waits, &mut worker, served, &mut leavers);
+    }
     Ok((outcome, got(rt, &mut far)?))
 }
 

@@ -1,6 +1,6 @@
 -- What a line of a replay script asks for. The forms are our own; the words of each event are those by which the journal tells it.
 use Rattle.std.specs.Prelude.{ℕ, Bool, true, false, ◌==◌, ◌||◌, List, [], ◌∷◌, length, codes, Option, Some, None, bytes_eq, if◌then◌else◌}
-use Rattle.std.specs.Option.{option_map}
+use Rattle.std.specs.Option.{option_map, option_or}
 use Rattle.lb_types_text.specs.Parts.{parts}
 use Rattle.lb_config.specs.ConfigViews.{BackendView, ConfigView}
 use Rattle.lb_config.specs.Finds.{server_place}
@@ -11,6 +11,7 @@ use Rattle.lb_script.specs.declared.script_line.ScriptLine.{ScriptLine}
 use Rattle.lb_script.specs.declared.script_line.ScriptLine.TheVariants.{Blank, Event, Snapshot, Install, PlanNow, PlanText}
 use Rattle.lb_script.specs.Operators.{operator_line}
 use Rattle.lb_script.specs.Requests.{request_in}
+use Rattle.lb_script.specs.SetPins.{set_in, clear_in}
 use Rattle.lb_script.specs.Words.{Word, ◌>>=◌, at_end, number_in, only_word}
 
 -- ---- the words behind the first
@@ -56,6 +57,8 @@ plan_text_in words = only_word words >>= λ word. if is_version word then Some P
 unfoldable pub keyword_in : Word → Option Keyword
 keyword_in word =
     if bytes_eq word (codes "serve") then Some First.Serve
+    else if bytes_eq word (codes "set") then Some First.Set
+    else if bytes_eq word (codes "clear") then Some First.Clear
     else if bytes_eq word (codes "open") then Some First.Open
     else if bytes_eq word (codes "close") then Some First.Close
     else if bytes_eq word (codes "expire") then Some First.Expire
@@ -69,6 +72,8 @@ keyword_in word =
 -- what the words behind it ask for
 unfoldable pub asked_by : BackendView → Keyword → List Word → Option ScriptLine
 asked_by backend First.Serve words = option_map (λ request. Event (Asks.Serve request)) (request_in backend words)
+asked_by backend First.Set words = option_map (λ set. Event (Asks.Set set)) (set_in backend words)
+asked_by backend First.Clear words = option_map (λ name. Event (Asks.Clear name)) (clear_in backend words)
 asked_by backend First.Open words = option_map (λ server. Event (Asks.Open server)) (server_in backend words)
 asked_by backend First.Close words = option_map (λ server. Event (Asks.Close server)) (server_in backend words)
 asked_by backend First.Expire words = option_map (λ moment. Event (Asks.Expire moment)) (moment_in words)
@@ -79,6 +84,8 @@ asked_by backend First.Plan words = at_end PlanNow words
 asked_by backend First.PlanText words = plan_text_in words
 
 abbrev pub said_under : ConfigView → BackendView → List ℕ → Option Keyword → List Word → Option ScriptLine
+-- an operator's command begins with `set` too, and no line is both
+said_under config backend line (Some First.Set) words = option_or (asked_by backend First.Set words) (operator_line config line)
 said_under config backend line (Some keyword) words = asked_by backend keyword words
 said_under config backend line None words = operator_line config line
 

@@ -3,11 +3,15 @@ ghost use Rattle.lb_script.specs.Lines.{keyword_in};
 
 use crate::words::is;
 
-/// The first word of a line that is no operator's command.
+/// The first word of a line that is no operator's command. `set` is one of these too.
 #[derive(Clone, Copy, Debug, PartialEq, Eq)]
 pub(crate) enum Keyword {
     /// `serve`
     Serve,
+    /// `set`
+    Set,
+    /// `clear`
+    Clear,
     /// `open`
     Open,
     /// `close`
@@ -34,6 +38,12 @@ impl Keyword {
     {
         if is(word, b"serve") {
             return Some(Keyword::Serve);
+        }
+        if is(word, b"set") {
+            return Some(Keyword::Set);
+        }
+        if is(word, b"clear") {
+            return Some(Keyword::Clear);
         }
         if is(word, b"open") {
             return Some(Keyword::Open);

@@ -16,6 +16,7 @@ mod line;
 mod requests;
 mod script_line;
 mod servers;
+mod set_pins;
 mod words;
 
 pub use backends::only_backend;

@@ -6,6 +6,7 @@ use crate::commands::read_operator_line;
 use crate::keyword::Keyword;
 use crate::requests::read_request;
 use crate::servers::find_server;
+use crate::set_pins::{read_clear, read_set};
 use crate::words::{at_end, is, only_word, read_number};
 use lb_config::{BackendConfig, Config};
 use lb_desk_model::Event;
@@ -34,10 +35,15 @@ pub fn read_line(
     let Some(first) = words.next_part() else {
         return Ok(None);
     };
-    match Keyword::read(first) {
-        Some(keyword) => read_behind(alloc, backend, keyword, &mut words),
-        None => read_operator_line(alloc, config, line),
+    let Some(keyword) = Keyword::read(first) else {
+        return read_operator_line(alloc, config, line);
+    };
+    let said = read_behind(alloc, backend, keyword, &mut words)?;
+    // An operator's command begins with `set` too, and no line is both.
+    if said.is_none() && keyword == Keyword::Set {
+        return read_operator_line(alloc, config, line);
     }
+    Ok(said)
 }
 
 /// What the words after the keyword ask for.
@@ -53,6 +59,12 @@ fn read_behind(
     Ok(match keyword {
         Keyword::Serve => read_request(alloc, backend, words)?
             .map(Event::Serve)
+            .map(ScriptLine::Event),
+        Keyword::Set => read_set(alloc, backend, words)?
+            .map(Event::Set)
+            .map(ScriptLine::Event),
+        Keyword::Clear => read_clear(alloc, backend, words)?
+            .map(Event::Clear)
             .map(ScriptLine::Event),
         Keyword::Open => read_server(backend, words)
             .map(Event::Open)

@@ -6,7 +6,7 @@ use lb_desk_model::Event;
 pub enum ScriptLine {
     /// Nothing: the line is empty.
     Blank,
-    /// An event of the backend that the script is for: a request, the opening or the end of a connection, an expiry, the result of
+    /// An event of the backend that the script is for: a request, a pin that is set or cleared, the opening or the end of a connection, an expiry, the result of
     /// a check, or an operator's change of a server. `Snapshot` and `Install` are no such events.
     Event(Event),
     /// `snapshot`: a sheet, which is kept as the next one.

@@ -8,6 +8,7 @@ pub mod Turn
 pub mod Touch
 pub mod Taken
 pub mod Push
+pub mod Removed
 pub mod Changes
 pub mod Permuted
 pub mod Copies

@@ -166,6 +166,10 @@ module _ {K V : Type 0} (test : K → Bool) where
   pub not_found : (xs : List (K × V)) (log : List ℕ) → Nowhere test xs → lookup test (picked xs log) ≡ None
   not_found xs log nowhere = lookup-fail (picked xs log) (fails xs log nowhere)
 
+  -- taking it out changes nothing
+  pub not_removed : (xs : List (K × V)) (log : List ℕ) → Nowhere test xs → remove_entry test (picked xs log) ≡ picked xs log
+  not_removed xs log nowhere = remove_entry-fail (picked xs log) (fails xs log nowhere)
+
   -- and a touch of it changes nothing
   pub not_touched : (xs : List (K × V)) (log : List ℕ) (value : V) → Nowhere test xs → touched test value (picked xs log) ≡ picked xs log
   not_touched xs log value nowhere =
@@ -189,6 +193,12 @@ module _ {K V : Type 0} (test : K → Bool) where
 
     pub found : lookup test (picked xs log) ≡ Some p.1
     found = ap (lookup test) parts.with_it ∙ lookup-split parts.front parts.rest p parts.fail (only.passes p has)
+
+    -- its pair is taken out of the middle
+    pub removed_is : (hole : ℕ) → length xs ≤ hole → picked xs (set log i hole) ≡ remove_entry test (picked xs log)
+    removed_is hole past =
+        let s : Split (picked xs log) (picked xs (set log i hole)) p = split xs log i place hole p at has (slice_get_past xs hole past) others_fail in
+        s.without_it ∙ sym (remove_entry-split s.front s.rest p s.fail (only.passes p has)) ∙ ap (remove_entry test) (sym s.with_it)
 
     -- its pair is taken out of the middle, and put behind the others
     pub touched_is : (hole : ℕ) (value : V) → length xs ≤ hole → picked xs (set log i hole) ++ (p.0, value) ∷ [] ≡ touched test value (picked xs log)

@@ -1,5 +1,5 @@
-ghost use Rattle.std.specs.Prelude.{◌≡◌, ◌+◌, ◌^◌, ◌<◌, ◌≤◌, None, List, [], ◌∷◌, ◌++◌, if◌then◌else◌, is_some, IfOk, IfErr, IsPermutation, OnErr, OnOk, length, drop, slice_get};
-ghost use Rattle.std.specs.Map.{lookup};
+ghost use Rattle.std.specs.Prelude.{◌≡◌, ◌+◌, ◌^◌, ◌<◌, ◌≤◌, None, List, [], ◌∷◌, ◌++◌, if◌then◌else◌, is_some, IfOk, IfErr, IfNone, IsPermutation, OnErr, OnOk, length, drop, slice_get};
+ghost use Rattle.std.specs.Map.{lookup, remove_entry};
 ghost use Rattle.std.specs.Option.{option_copied, option_map};
 ghost use Rattle.pin_recent.specs.Recent.{IsChanged, MayChange, in_order, touched};
 
@@ -133,6 +133,19 @@ impl<K: Eq + Hash, V: Drop, S: BuildHasher> Recent<K, V, S> {
 }
 
 impl<K: Eq + Hash + Drop, V: Drop, S: BuildHasher> Recent<K, V, S> {
+    /// Takes a key's pair out, and answers its value. Where the key isn't there, nothing changes. It needs no memory, and costs one
+    /// look-up by hash and a few machine instructions.
+    pub fn take_out(&mut self, key: &K) -> Option<V>
+        requires { self.old.uses ≤ 2 ^ 63 }
+        ensures old { result ≡ lookup (K.eq key.now) self.old.pairs }
+        ensures left { self.new.pairs ≡ remove_entry (K.eq key.now) self.old.pairs }
+        ensures kept { IfNone result (self.new ≡ self.old) }
+        ensures uses { self.new.uses ≡ self.old.uses }
+    {
+        let place = self.store.place_of(key)?;
+        Some(self.store.take_at(place))
+    }
+
     /// Takes all pairs out, without memory; what they had is kept for others. It hashes nothing, and costs one walk over the pairs
     /// and over what finds them, which has the size that the map once had.
     pub fn clear(&mut self)

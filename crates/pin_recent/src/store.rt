@@ -1,6 +1,6 @@
 //! Pairs at places of a map, with the log of their last uses.
 ghost use Rattle.std.specs.Prelude.{◌≡◌, ℕ, ◌+◌, ◌-◌, ◌*◌, ◌^◌, ◌<◌, ◌≤◌, Bool, [], ◌∷◌, ◌++◌, Some, OnOk, OnErr, IfOk, IfErr, IfSome, IfNone, length, slice_get, option_to_list};
-ghost use Rattle.std.specs.Map.{lookup};
+ghost use Rattle.std.specs.Map.{lookup, remove_entry};
 ghost use Rattle.std.specs.Option.{option_copied, option_map};
 ghost use Rattle.std.specs.VecDeque.{deque_capacity};
 ghost use Rattle.indexmap.specs.IndexMap.{spare};
@@ -272,6 +272,25 @@ impl<K: Eq + Hash + Drop, V: Drop, S: BuildHasher> Store<K, V, S> {
     {
         self.map.clear();
         self.log.clear();
+    }
+
+    /// Takes the pair at a place out, and answers its value.
+    pub(crate) fn take_at(&mut self, place: usize) -> V
+        requires ordered { Ordered self.old }
+        requires within { place < length self.old.map.entries }
+        requires fits { next_number self.old < 2 ^ 64 }
+        ensures ordered { Ordered self.new }
+        ensures trim { Trim self.new }
+        ensures old { (test : K → Bool) → OnlyAt test place (bare self.old.map.entries) → lookup test (stored self.old) ≡ Some result }
+        ensures left { (test : K → Bool) → OnlyAt test place (bare self.old.map.entries) → stored self.new ≡ remove_entry test (stored self.old) }
+        ensures spent { spent self.new ≤ spent self.old }
+    {
+        let (_, stamped) = self.map.swap_remove_index(place).unwrap();
+        let Stamped { value, number } = stamped;
+        self.log.put(number, HOLE);
+        self.settle(place as u32);
+        self.trim();
+        value
     }
 
     /// Appends a pair whose key isn't there.

@@ -1,7 +1,8 @@
 -- Counts of pins through each change.
-use Rattle.std.proofs.Common.{◌≡◌, ℕ, ◌+◌, ◌<◌, ◌^◌, Bool, true, false, cond, List, [], ◌∷◌, ◌++◌, length, Option, None, Some, Result, Ok, Err, OnOk, is_err, true≢false, refl, sym, ap, subst, arith}
+use Rattle.std.proofs.Common.{◌≡◌, ℕ, ◌+◌, ◌<◌, ◌≤◌, ◌^◌, Bool, true, false, cond, List, [], ◌∷◌, ◌++◌, length, Option, None, Some, Result, Ok, Err, OnOk, is_err, true≢false, refl, sym, ap, subst, length-append, arith}
 use Rattle.std.proofs.lemmas.List.Sums.{sum_by-cons, sum_by-append, sum_by_push, count_by-le-length}
 use Rattle.std.specs.Bool.{Decides}
+use Rattle.std.specs.Option.{IfNone}
 use Rattle.pin_counts.specs.Counts.{HasOneMore, HasChanged, one_if_same}
 use Rattle.pin_recent.specs.Recent.{touched}
 use Rattle.pin_set.specs.declared.pin.PinId.{PinId}
@@ -10,15 +11,19 @@ use Rattle.lb_desk_model.specs.Serves.{IsNew}
 use Rattle.lb_types_pins.specs.Kinds.{same_place}
 use Rattle.pin_table.specs.declared.held.Held.{Held}
 use Rattle.pin_table.specs.declared.table_kind.TableKind.{TableKind}
-use Rattle.pin_table.specs.Counted.{listed, AreCounted}
+use Rattle.pin_table.specs.Counted.{listed, AreApart, AreCounted}
 use Rattle.pin_table.specs.Kinds.{kind_of, same_kind, pins_of, counted_of, AreCounts}
-use Rattle.pin_table.specs.Pins.{held_pin, Stands}
-use Rattle.pin_table.proofs.Apart.{apart-push, apart-used}
+use Rattle.pin_table.specs.Pins.{held_pin, Stands, IsTakenOut}
+use Rattle.pin_table.proofs.Apart.{apart-push, apart-used, apart-without}
 use Rattle.pin_table.proofs.Used.{held_in, listed-push, touched_listed}
 
 pub on_ok : {A E P : Type 0} (r : Result A E) → OnOk r P → false ≡ is_err r → P
 on_ok (Ok x) holds e = holds
 on_ok (Err x) holds e = absurd (true≢false (sym e))
+
+pub if_none : {A P : Type 0} (found : Option A) → P → IfNone found P
+if_none None holds = holds
+if_none (Some x) holds = tt
 
 -- 1 where the pin is of the kind, else 0
 abbrev one : TableKind → TablePin → ℕ
@@ -45,6 +50,17 @@ pins_of-push kind pins p = sum_by_push (λ (q : TablePin). cond (same_kind kind 
 
 pins_of-append : (kind : TableKind) (xs ys : List TablePin) → pins_of (xs ++ ys) kind ≡ pins_of xs kind + pins_of ys kind
 pins_of-append kind xs ys = sum_by-append (λ (q : TablePin). cond (same_kind kind (kind_of q)) 1 0) xs ys
+
+-- one pin fewer
+pub fewer-out : (name : PinId) (held : Held) (pins left : List TablePin) → IsTakenOut name held pins left → length left ≤ length pins
+fewer-out name held pins left t =
+    omega (
+      arith,
+      ap length t.2.is,
+      ap length t.3,
+      length-append t.0 (held_pin name held ∷ t.1),
+      length-append t.0 t.1,
+    )
 
 -- another pin in its place, behind the others
 pub pins_of-used : (kind : TableKind) (before : List TablePin) (found : TablePin) (after : List TablePin) (used : TablePin)
@@ -103,6 +119,25 @@ module _ (counts : List (TableKind × ℕ)) where
         record {
           apart = all.apart.1;
           counted = λ kind. omega (arith, all.counted kind, has kind, pins_of-cons kind (held_pin name held) (listed rest));
+        }
+
+    -- a pin that goes
+    pub counted-out : (name : PinId) (held : Held) (pins left : List TablePin) → AreCounted pins counts → IsTakenOut name held pins left
+        → HasOneMore same_kind new (kind_of (held_pin name held)) counts → AreCounted left new
+    counted-out name held pins left are t has =
+        let found = held_pin name held in
+        subst (λ l. AreCounted l new) (sym t.3) record {
+          apart = (apart-without t.0 found t.1 (subst AreApart t.2.is are.apart)).0;
+          counted = λ kind.
+              omega (
+                arith,
+                are.counted kind,
+                has kind,
+                ap (λ l. pins_of l kind) t.2.is,
+                pins_of-append kind t.0 (found ∷ t.1),
+                pins_of-cons kind found t.1,
+                pins_of-append kind t.0 t.1,
+              );
         }
 
     module _ (eq : PinId → PinId → Bool) (decides : (a b : PinId) → Decides (eq a b) (a ≡ b)) where

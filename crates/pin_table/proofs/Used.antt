@@ -10,9 +10,9 @@ use Rattle.pin_set.specs.declared.table_pin.TablePin.{TablePin}
 use Rattle.lb_desk_model.specs.Serves.{StandsBetween}
 use Rattle.pin_table.specs.declared.held.Held.{Held}
 use Rattle.pin_table.specs.Counted.{listed, AreApart}
-use Rattle.pin_table.specs.Pins.{held_pin, used_in, Stands, IsUsed}
+use Rattle.pin_table.specs.Pins.{held_pin, used_in, Stands, IsTakenOut, IsUsed}
 use Rattle.pin_table.proofs.Apart.{All-without}
-use Rattle.pin_table.proofs.Found.{not_equal}
+use Rattle.pin_table.proofs.Found.{found, not_equal}
 
 -- the pin as a pair
 abbrev pub held_of : TablePin → Held
@@ -96,6 +96,31 @@ module _ (eq : PinId → PinId → Bool) (decides : (a b : PinId) → Decides (e
       let is : pairs ≡ pairs_of (before ++ found ∷ after) = pairs_of-listed pairs ∙ ap pairs_of stands.is in
       ap (λ l. listed (touched (eq name) held l)) is
       ∙ used_pairs name held before found after (subst AreApart stands.is apart) stands.named
+
+  removed_pairs : (name : PinId) (before : List TablePin) (found : TablePin) (after : List TablePin) → AreApart (before ++ found ∷ after)
+      → found.pin.id ≡ name → listed (remove_entry (eq name) (pairs_of (before ++ found ∷ after))) ≡ before ++ after
+  removed_pairs name [] found after apart named =
+      let here : eq name found.pin.id ≡ true = (decides name found.pin.id).1 (sym named) in
+      let rest = pairs_of after in
+      ap (λ t. listed (cond t rest ((found.pin.id, held_of found) ∷ remove_entry (eq name) rest))) here ∙ listed-pairs_of after
+  removed_pairs name (p ∷ before) found after apart named =
+      let here = earlier_differs name p before found after apart named in
+      let rest = pairs_of (before ++ found ∷ after) in
+      ap (λ t. listed (cond t rest ((p.pin.id, held_of p) ∷ remove_entry (eq name) rest))) here
+      ∙ ap (λ l. p ∷ l) (removed_pairs name before found after apart.1 named)
+
+  -- a pair that is taken out is the pin of its name
+  pub taken_out : (name : PinId) (held : Held) (pairs : List (PinId × Held)) → AreApart (listed pairs) → lookup (eq name) pairs ≡ Some held
+      → IsTakenOut name held (listed pairs) (listed (remove_entry (eq name) pairs))
+  taken_out name held pairs apart at =
+      let stands = found eq decides name pairs held at in
+      let is : pairs ≡ pairs_of (stands.0 ++ held_pin name held ∷ stands.1) = pairs_of-listed pairs ∙ ap pairs_of stands.2.is in (
+        stands.0,
+        stands.1,
+        stands.2,
+        ap (λ l. listed (remove_entry (eq name) l)) is
+            ∙ removed_pairs name stands.0 (held_pin name held) stands.1 (subst AreApart stands.2.is apart) refl,
+      )
 
   -- which is a use of it
   pub touched_used : (name : PinId) (held : Held) (place : Option ℕ) (now : ℕ) (pairs : List (PinId × Held)) → AreApart (listed pairs) → Stands name held (listed pairs)

@@ -23,6 +23,11 @@ abbrev pub IsUsed : PinId → Option ℕ → ℕ → List TablePin → List Tabl
 IsUsed name place now old new = (before : List TablePin) (found : TablePin) (after : List TablePin)
     → StandsBetween name old before found after → new ≡ before ++ after ++ used_in found place now ∷ []
 
+-- the pin of this name, of which this was held, is gone, and the others stand as they stood
+abbrev pub IsTakenOut : PinId → Held → List TablePin → List TablePin → Type 0
+IsTakenOut name held old new = (before : List TablePin) × (after : List TablePin)
+    × StandsBetween name old before (held_pin name held) after × (new ≡ before ++ after)
+
 -- a new pin at the server, used at this moment
 abbrev pub made_pin : PinId → ℕ → ℕ → ℕ → TablePin
 made_pin name server cost now = record { pin = record { id = name; place = Some server; cost = cost }; last_use = now }

@@ -7,7 +7,7 @@ ghost use Rattle.lb_desk_model.specs.Serves.{IsNew};
 ghost use Rattle.pin_table.specs.declared.table_kind.TableKind.{TableKind as AnyKind};
 ghost use Rattle.pin_table.specs.Counted.{AreApart, used_pins};
 ghost use Rattle.pin_table.specs.Kinds.{AreCounts, ArePinCounts};
-ghost use Rattle.pin_table.specs.Pins.{held_pin, Stands, IsUsed};
+ghost use Rattle.pin_table.specs.Pins.{held_pin, Stands, IsTakenOut, IsUsed};
 ghost use Rattle.pin_table.specs.Placed.{AreMovesOf, ArePlaced};
 ghost use Rattle.pin_moves.specs.Moves.{AreRisingCounts, move_before};
 
@@ -172,6 +172,20 @@ impl<S: BuildHasher> CountedPins<S> {
         let (name, held) = self.pins.pop_oldest()?;
         self.counts.remove(TableKind::of(&name, &held));
         Some((name, held))
+    }
+
+    /// Takes the pin of this name out, without memory. Where there is none, nothing changes.
+    pub(crate) fn take_out(&mut self, name: &PinId) -> Option<Held>
+        requires { self.old.uses ≤ 2 ^ 63 }
+        ensures some { IfSome result (λ held. IsTakenOut name.now held self.old.pins self.new.pins) }
+        ensures none { IfNone result (IsNew name.now self.old.pins) }
+        ensures kept { IfNone result (self.new ≡ self.old) }
+        ensures len { length self.new.pins ≤ length self.old.pins }
+        ensures uses { self.new.uses ≡ self.old.uses }
+    {
+        let held = self.pins.take_out(name)?;
+        self.counts.remove(TableKind::of(name, &held));
+        Some(held)
     }
 
     /// Lets the pin go that wasn't used for longest.

@@ -5,7 +5,7 @@ ghost use Rattle.pin_counts.specs.Counts.{AreRising};
 ghost use Rattle.lb_desk_model.specs.Serves.{IsNew};
 ghost use Rattle.pin_table.specs.declared.table_kind.TableKind.{TableKind as AnyKind};
 ghost use Rattle.pin_table.specs.Kinds.{AreCounts, ArePinCounts};
-ghost use Rattle.pin_table.specs.Pins.{held_pin, made_pin, Stands, IsUsed};
+ghost use Rattle.pin_table.specs.Pins.{held_pin, made_pin, Stands, IsTakenOut, IsUsed};
 ghost use Rattle.pin_table.specs.Placed.{AreMovesOf, ArePlaced};
 ghost use Rattle.pin_moves.specs.Moves.{AreRisingCounts, move_before};
 ghost use Rattle.pin_table.specs.Tables.{IsTable, IsRefusal, after_use, is_closed, is_full, staying, table_of_parts, with_pins};
@@ -208,6 +208,18 @@ impl<S: BuildHasher> Table<S> {
         ensures left { self.new ≡ with_pins self.old (drop 1 self.old.pins) }
     {
         self.pins.pop_oldest()
+    }
+
+    /// Takes the pin of this name out, without memory, and gives what was held of it. It is no use of any pin. It costs two look-ups by
+    /// hash.
+    pub fn take_out(&mut self, name: &PinId) -> Option<Held>
+        requires { self.old.uses ≤ 2 ^ 63 }
+        ensures some { IfSome result (λ held. IsTakenOut name.now held self.old.pins self.new.pins) }
+        ensures none { IfNone result (IsNew name.now self.old.pins) }
+        ensures kept { IfNone result (self.new ≡ self.old) }
+        ensures rest { self.new ≡ with_pins self.old self.new.pins }
+    {
+        self.pins.take_out(name)
     }
 
     /// Lets all pins go, without memory; what they had is kept for others. It hashes nothing, and costs one walk over the pins and

@@ -1,6 +1,6 @@
 use Rattle.std.proofs.Common.{◌≡◌, Result, Ok, Err, ◌++◌, refl, sym, subst}
 use Rattle.std.specs.Prelude.{codes}
-use Rattle.command_socket.specs.declared.resolved.Resolved.{Resolved}
+use Rattle.command_socket.specs.declared.socket.SocketResolved.{SocketResolved}
 use Rattle.command_socket_words.specs.Faults.{fault_text}
 use Rattle.command_socket_words.specs.declared.fault.CommandFault.{CommandFault}
 use Rattle.command_socket_serve.specs.Answers.{Answers, looked_up}
@@ -20,7 +20,7 @@ returns-in-Err-clause-answers g c =
     let seen = desk_seen g.S.Mover.entries g.S.Mover.planned_now g.S.Steer.backend in
     let desks = c.args.desks.now in
     let found : Err c.in-Err.fault ≡ looked_up c.args.console.now.config c.args.said.now = rw c.config.ensures at c.in-Err.ensures in
-    subst (λ (said : Result Resolved CommandFault). Does (Answers seen c.args.console.now said desks desks)
+    subst (λ (said : Result SocketResolved CommandFault). Does (Answers seen c.args.console.now said desks desks)
     (g.T.Told.told c.args.told.now) (g.T.Told.told c.args.told.now) c.args.out.now c.args.sent c.print_fault.new.out c.print_fault.result) found
     (record {
       outcome = only_text (fault_text c.in-Err.fault ++ codes "\n");

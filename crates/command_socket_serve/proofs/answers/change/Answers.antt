@@ -1,5 +1,6 @@
 use Rattle.std.proofs.Common.{◌≡◌, true, false, Ok, Err, [], ◌∷◌, refl, sym, ◌∙◌}
-use Rattle.command_socket_serve.specs.Answers.{change_text, is_done, refused_line}
+use Rattle.command_socket_serve.specs.Answers.{change_text, is_done}
+use Rattle.command_socket_serve.specs.Refusals.{refused_line}
 use Rattle.command_socket_serve.specs.Outcomes.{only_text}
 use Rattle.command_socket_serve.proofs.Printings.{prints_none}
 use Rattle.command_socket_serve.proofs.Telling.{grows_none}

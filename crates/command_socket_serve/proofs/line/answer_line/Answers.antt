@@ -1,6 +1,6 @@
 use Rattle.std.proofs.Common.{Ok, inr, refl}
 use Rattle.lb_desk_ports.specs.declared.refused.Refused.TheVariants.{Memory}
-use Rattle.command_socket_serve.specs.Answers.{refused_line}
+use Rattle.command_socket_serve.specs.Refusals.{refused_line}
 use Rattle.command_socket_serve.specs.Lines.{empty_line, ended}
 use Rattle.command_socket_serve.specs.Outcomes.{only_text}
 use Rattle.command_socket_serve.proofs.Printings.{prints_then}

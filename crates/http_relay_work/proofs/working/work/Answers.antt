@@ -6,9 +6,9 @@ use Rattle.http_relay_work.proofs.working.work.Goals as goal
 
 pub loop-preserved : goal.loop-preserved
 loop-preserved g c =
-    let same : length c.serve_arrival.new.ports ≡ c.loop.ports.len = omega (arith, c.serve_arrival.auto.ports, c.deref_mut.ensures.len) in
-    let back = with_items_is c.loop.ports c.serve_arrival.new.ports same in
+    let same : length c.serve_arrival-served.new.ports ≡ c.loop.ports.len = omega (arith, c.serve_arrival-served.auto.ports, c.deref_mut.ensures.len) in
+    let back = with_items_is c.loop.ports c.serve_arrival-served.new.ports same in
     let more = one_more (port_seen g.P.Port.entries g.P.Port.refusals) g.P.Port.server_of c.args.relay.config.now c.args.ports.items
-    c.deref_mut.result.now c.serve_arrival.new.ports c.in-Some-next_arrival.arrival.frontend c.in-Some-next_arrival.arrival.source c.serve_arrival.result
-    (rw c.deref_mut.ensures.value c.loop.invariant.3) c.serve_arrival.ensures.served c.serve_arrival.ensures.unserved in
+    c.deref_mut.result.now c.serve_arrival-served.new.ports _ _ _ (λ served. served.outcome) c.serve_arrival-served.result
+    (rw c.deref_mut.ensures.value c.loop.invariant.3) c.serve_arrival-served.ensures.served c.serve_arrival-served.ensures.unserved in
     rw back (tt, tt, omega (arith, same, c.loop.invariant.2, c.loop.ports.ok.0), more)

@@ -21,6 +21,10 @@ pub returns-in-Table : goal.returns-in-Table
 unfolding answer_text
 returns-in-Table g c = rw c.in-Table.is (Sends-wrote _ _ _ _ c.send_table.ensures)
 
+pub returns-in-Rows : goal.returns-in-Rows
+unfolding answer_text
+returns-in-Rows g c = rw c.in-Rows.is (Sends-wrote _ _ _ _ c.send_rows.ensures)
+
 pub returns-in-Plan : goal.returns-in-Plan
 unfolding answer_text
 returns-in-Plan g c = rw c.in-Plan.is c.send_plan.ensures

@@ -1,5 +1,5 @@
 use Rattle.dual_cert_write.proofs.Sends.{Sends-then}
-use Rattle.lb_answers.proofs.tables.send_table.Goals as goal
+use Rattle.lb_answers.proofs.tables.send_rows.Goals as goal
 
 pub returns-in_default : goal.returns-in_default
 returns-in_default g c = rw c.in_default.is c.send.ensures

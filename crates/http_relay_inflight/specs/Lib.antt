@@ -1,0 +1,3 @@
+pub mod OneByOne
+pub mod Requests
+pub mod Turns
