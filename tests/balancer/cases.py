@@ -20,6 +20,10 @@ class Failure(AssertionError):
     """What was seen is not what is due."""
 
 
+class Mistimed(Failure):
+    """What was due came too early or too late, which a busy machine can bring about."""
+
+
 @dataclass(frozen=True)
 class Case:
     """A test: a sentence, and what tries it."""
@@ -48,6 +52,12 @@ def expect(what: str, holds: bool) -> None:
     """Fails unless the sentence holds."""
     if not holds:
         raise Failure(what)
+
+
+def expect_between(what: str, least: float, seconds: float, most: float) -> None:
+    """Fails unless what took so many seconds took at least so many, and at most so many."""
+    if not least <= seconds <= most:
+        raise Mistimed(f"{what}: {seconds:.2f} s, and not {least:g} to {most:g}")
 
 
 def wait_until(what: str, holds: Callable[[], bool], limit: float = PATIENCE) -> None:

@@ -6,7 +6,7 @@ import socket
 import threading
 import time
 
-from .cases import PATIENCE, case, expect, expect_equal, wait_until
+from .cases import PATIENCE, case, expect, expect_between, expect_equal, wait_until
 from .clients import Client, ask, at_once, is_refused
 from .farms import HOST, LIMITS, Farm, ends_well, listen, server
 from .hostile import attack, dripping
@@ -128,7 +128,7 @@ def a_stop_waits_for_a_client_that_drips_no_longer_than_its_limit(farm: Farm) ->
             begin = time.monotonic()
             ended = balancer.wait()
             took = time.monotonic() - begin
-    expect(f"it ends after the limit: {took:.1f} s", took <= 6)
+    expect_between("it ends after the limit", 0, took, 6)
     expect_equal("the end", (ended.status, ended.out), (0, "closed web events 0 rising yes\n"))
 
 
@@ -147,7 +147,7 @@ def a_stop_waits_for_a_body_that_drips_no_longer_than_the_clients_limit(farm: Fa
             begin = time.monotonic()
             ended = balancer.wait()
             took = time.monotonic() - begin
-    expect(f"it ends after the limit, and not before: {took:.1f} s", 1.5 <= took <= 6)
+    expect_between("it ends after the limit, and not before", 1.5, took, 6)
     expect_equal("the end", (ended.status, ended.out), (0, "closed web events 8 rising yes\n"))
 
 
@@ -190,7 +190,7 @@ def a_stop_waits_for_a_server_that_drips_no_longer_than_both_limits(farm: Farm) 
             took = time.monotonic() - begin
     finally:
         ended.set()
-    expect(f"it ends after both limits, and not before: {took:.1f} s", 2.5 <= took <= 7)
+    expect_between("it ends after both limits, and not before", 2.5, took, 7)
     expect_equal("the end", (at_end.status, at_end.out), (0, "closed web events 4 rising yes\n"))
 
 

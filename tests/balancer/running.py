@@ -16,7 +16,7 @@ from . import (
     checks, commands, crowds, faults, floods, forwarding, keys, limits, machines, manual, operators, pins, queues, rules, slow, slowness, smuggling,
     soak, starts, supervised, waits, web_farm, wholes,
 )  # fmt: skip
-from .cases import CASES, Case, Failure
+from .cases import CASES, Case, Failure, Mistimed
 from .farms import Farm, end_all
 
 ROOT = Path(__file__).resolve().parent.parent.parent
@@ -33,21 +33,22 @@ class Result:
 
     case: Case
     fault: str
+    is_mistimed: bool
     seconds: float
 
 
 def tried(case: Case, program: Path) -> Result:
     """Tries a test on a farm of its own."""
     start = time.monotonic()
-    fault = ""
+    fault, is_mistimed = "", False
     try:
         with Farm(program) as farm:
             case.body(farm)
     except Failure as failure:
-        fault = str(failure)
+        fault, is_mistimed = str(failure), isinstance(failure, Mistimed)
     except Exception:  # noqa: BLE001 - whatever hinders a test fails it
         fault = traceback.format_exc()
-    return Result(case, fault, time.monotonic() - start)
+    return Result(case, fault, is_mistimed, time.monotonic() - start)
 
 
 def tell(result: Result, with_times: bool) -> None:
@@ -58,13 +59,20 @@ def tell(result: Result, with_times: bool) -> None:
 
 
 def run_cases(program: Path, only: str, at_a_time: int, with_times: bool) -> int:
-    """Runs the tests whose group or sentence has this text in it. The status is 0 where all passed."""
+    """Runs the tests whose group or sentence has this text in it. One that failed by the clock alone is run once more, with nothing beside it,
+    and that counts. The status is 0 where all passed."""
     chosen = [case for case in CASES if only in f"{case.group}: {case.name}"]
-    failed = 0
+    failed, mistimed = 0, []
     with ThreadPoolExecutor(at_a_time) as pool:
         for result in pool.map(lambda case: tried(case, program), chosen):
             tell(result, with_times)
-            failed += bool(result.fault)
+            failed += bool(result.fault) and not result.is_mistimed
+            mistimed += [result.case] * result.is_mistimed
+    for case in mistimed:
+        print(f"once more, with nothing beside it: {case.group}: {case.name}", flush=True)
+        result = tried(case, program)
+        tell(result, with_times)
+        failed += bool(result.fault)
     print(f"{len(chosen) - failed} passed, {failed} failed")
     return 1 if failed or not chosen else 0
 

@@ -7,7 +7,7 @@ import time
 from pathlib import Path
 
 from .answers import CONTINUE
-from .cases import case, expect, expect_equal, wait_until
+from .cases import case, expect, expect_between, expect_equal, wait_until
 from .clients import Client, ask, at_once, is_refused
 from .farms import LIMITS, TABLE, Balancer, Farm, ends_well, listen, server
 from .origins import Gate, Handler, Talk, answers, response
@@ -40,7 +40,7 @@ def are_all_accepted(port: int) -> bool:
 
 
 @case
-def two_hundred_clients_of_servers_that_take_half_a_second_are_all_answered_within_two_by_eight_workers(farm: Farm) -> None:
+def two_hundred_clients_of_servers_that_take_half_a_second_are_all_answered_within_five_by_eight_workers(farm: Farm) -> None:
     port = farm.port()
     servers = [server(name, farm.origin(late(0.5, answers(name.encode())))) for name in "ab"]
     balancer = farm.start(listen(port, *LIMITS, *TABLE, *servers), ("tune.relays 8",))
@@ -56,8 +56,8 @@ def two_hundred_clients_of_servers_that_take_half_a_second_are_all_answered_with
     came = at_once(come, range(200))
     answered = [answer for answer, _ in came]
     expect_equal("answers of either server", sorted({answered.count(A), answered.count(B)}), [100])
-    slowest = max(seconds for _, seconds in came)
-    expect(f"all are answered within 2 s: {slowest:.2f} s", slowest <= 2)
+    # The last would wait for 12 s if each held a worker.
+    expect_between("the slowest answer", 0.5, max(seconds for _, seconds in came), 5)
     expect_equal("events", ends_well(balancer), {"web": 800})
 
 
@@ -73,7 +73,7 @@ def a_backend_that_hangs_holds_up_no_other_one(farm: Farm) -> None:
     for _ in range(20):
         begin = time.monotonic()
         expect_equal("another one's answer", ask(good, GET), B)
-        expect("it comes within 2 s", time.monotonic() - begin <= 2)
+        expect_between("it comes at once", 0, time.monotonic() - begin, 2)
     gate.open()
     expect_equal("the answers of the one that hung", [client.read_to_end() for client in clients], [A] * 40)
     expect_equal("events", ends_well(balancer, "hung", "good"), {"hung": 160, "good": 80})
@@ -140,7 +140,7 @@ def clients_that_wait_in_the_line_at_a_stop_are_served_by_workers_on_call(farm: 
     begin = time.monotonic()
     expect_equal("the answer to `stop`", balancer.tell("stop"), "\n")
     expect_equal("the answers", [client.read_to_end() for client in clients], [A] * 100)
-    expect("they don't wait for one worker", time.monotonic() - begin <= 20)
+    expect_between("they don't wait for one worker", 0, time.monotonic() - begin, 20)
     ended = balancer.wait()
     expect_equal("the end", (ended.status, ended.out), (0, "closed web events 400 rising yes\n"))
 
