@@ -1,4 +1,4 @@
-"""The commands of docs/OPERATING.md, run as the page has them, and what it shows of their output."""
+"""The commands of README.md and docs/OPERATING.md, run as the pages have them, and what these show of their output."""
 
 from __future__ import annotations
 
@@ -14,6 +14,7 @@ from .origins import answers
 
 ROOT = Path(__file__).resolve().parent.parent.parent
 PAGE = (ROOT / "docs/OPERATING.md").read_text()
+README = (ROOT / "README.md").read_text()
 FIRST = (ROOT / "examples/run.cfg").read_text()
 # In place of `nc -U PATH` and `curl -s -H FIELD URL`, which need not be installed.
 CLIENTS = """
@@ -82,8 +83,8 @@ def without_numbers(text: str) -> str:
     return re.sub(r"\b(use=|events )\d+", r"\1N", text)
 
 
-@case
-def a_farm_from_nothing_goes_as_the_page_shows(farm: Farm) -> None:
+def first_farm(farm: Farm) -> tuple[Balancer, int]:
+    """A balancer with the shipped configuration, before servers a and b, and its port."""
     ports = {"8080": farm.port()}
     for number, name in (("8081", b"a"), ("8082", b"b")):
         ports[number] = farm.origin(answers(b"this is " + name + b"\n")).port
@@ -95,15 +96,21 @@ def a_farm_from_nothing_goes_as_the_page_shows(farm: Farm) -> None:
     out, err = farm.folder / "out", farm.folder / "err"
     balancer = Balancer(farm.spawn(text, out, err), out, err, farm.operators)
     balancer.wait_listening(1)
+    return balancer, ports["8080"]
+
+
+@case
+def a_farm_from_nothing_goes_as_the_page_shows(farm: Farm) -> None:
+    balancer, port = first_farm(farm)
     shell, count = Shell(farm), 0
     for command, shown in steps("A farm from nothing"):
         due = "".join(f"{line}\n" for line in shown)
         if command.startswith("examples/origins"):
             continue
         if command.startswith("./stickylb run"):
-            expect_equal(command, balancer.errors().replace(str(ports["8080"]), "8080"), due)
+            expect_equal(command, balancer.errors().replace(str(port), "8080"), due)
             continue
-        here = command.replace("/tmp/stickylb.sock", str(farm.operators)).replace(":8080", f":{ports['8080']}")
+        here = command.replace("/tmp/stickylb.sock", str(farm.operators)).replace(":8080", f":{port}")
         answer = shell.run(here)
         count += 1
         if command.startswith("echo 'stop'"):
@@ -115,6 +122,34 @@ def a_farm_from_nothing_goes_as_the_page_shows(farm: Farm) -> None:
         else:
             expect_equal(command, answer, due)
     expect("its commands were found", count >= 7)
+
+
+def drain_commands() -> list[str]:
+    """The commands of README's drain, in their order, each a line's first words in backticks."""
+    text = README.partition("## Drain a server\n")[2].partition("\n## ")[0]
+    return re.findall(r"^(?:\d\. )?`(op '[^`]*)`", text, flags=re.M)
+
+
+@case
+def a_drain_goes_as_readme_shows(farm: Farm) -> None:
+    balancer, port = first_farm(farm)
+    shell = Shell(farm)
+    [function] = re.findall(r"^    (op\(\) .*?)  ", README, flags=re.M)
+    shell.before += function.replace("/tmp/stickylb.sock", str(farm.operators)) + "\n"
+    for name, answer in (("ann", b"this is a\n"), ("bob", b"this is b\n")):
+        expect(name, get(port, f"x-id: {name}").endswith(answer))
+    sheet, drain, plan, count, disable, ready = drain_commands()
+    expect("the sheet has the group that the page shows", "\ngroup 1 a a,b\n" in shell.run(sheet))
+    expect_equal(drain, shell.run(drain), "\n")
+    wait_until("the pin is moved", lambda: "server=a" not in balancer.tell("show table web"))
+    expect_equal(plan, shell.run(plan), "pins 2 unplaced 0 moved 0\n\n")
+    expect_equal(count, shell.run(count), "0\n")
+    expect_equal(disable, shell.run(disable), "\n")
+    expect("ann's next answer", get(port, "x-id: ann").endswith(b"this is b\n"))
+    expect_equal(ready, shell.run(ready), "\n")
+    expect_equal("the pins after it", shell.run("op 'show table web' | grep -c ' server=b '"), "2\n")
+    expect_equal("the answer to `stop`", balancer.tell("stop"), "\n")
+    expect_equal("the status", balancer.wait().status, 0)
 
 
 @case
