@@ -1,0 +1,11 @@
+pub mod Answers
+pub mod Bytes
+pub mod Dates
+pub mod Fields
+pub mod Laws
+pub mod Lifetimes
+pub mod Lines
+pub mod Scans
+pub mod SetCookies
+pub mod StatusLines
+pub mod TaughtKeys
