@@ -1,0 +1,9 @@
+use Rattle.std.proofs.Common.{◌≡◌, ◌++◌, map, take}
+use Rattle.std.specs.List.{flat_map}
+use Rattle.dual_cert_text.specs.Spellings.{text_of_lines}
+use Rattle.pin_file.specs.KeyWords.{escaped}
+use Rattle.pin_file.specs.Spellings.{backend_lines, pin_line}
+use Rattle.pin_file.proofs.pushing.push_escaped_bytes.Given as goal
+
+abbrev pub invariant-loop-byte : goal.invariant-loop-byte
+invariant-loop-byte l = l.text.items ≡ l.fn.text.items ++ flat_map (λ byte. escaped byte) (take l.byte-index l.bytes)

@@ -1,0 +1,4 @@
+pub mod KeyWords
+pub mod Files
+pub mod Spellings
+pub mod Texts
