@@ -3,7 +3,7 @@ use pin_set::KeyText;
 use std::alloc::Global;
 use std::marker::Model;
 
-/// A pin as a file says it. Servers are told by their names, since a configuration may number them otherwise after a restart.
+/// A pin as a file says it. Servers have their names here, since a configuration may number them otherwise after a restart.
 #[derive(Debug, Drop)]
 pub struct FilePin {
     /// The bytes of the key. Of an address they are its text.

@@ -19,7 +19,7 @@ use std::alloc::Global;
 /// A file has one spelling: `stickypins 1`, for each backend `backend NAME` and a line for each of its pins
 /// (`pin KEY WANTED SERVER COST AGE`), and `end`. The key is as `show table` prints it. `WANTED` is the names of the wanted servers, joined
 /// by commas, and `SERVER` that of the server where the pin is, each with `-` for none. `COST` is 1 to 1000, and `AGE` is how long before
-/// the file was made the pin was last used, in milliseconds. Pins stand in order of last use: no age is above that of the line before.
+/// the file was made the pin was last used, in milliseconds. Pins are in order of last use: no age is above that of the line before.
 ///
 /// Any other text has a first fault: `BadLine` has the number of the first line that isn't of the form due there, names a backend a second
 /// time, or is out of order. `TooLarge` is a pin more than the 16777216 that a backend may have. `Truncated` is a text that ends before the

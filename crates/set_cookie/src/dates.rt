@@ -4,7 +4,7 @@ ghost use Rattle.set_cookie.specs.Dates.{date_words, full_year, is_date_mark, mo
 
 use lb_types_text::{Digits, Parts};
 
-/// Where the date stands in the order of moments, if it can be read.
+/// The place of the date among all moments, if it can be read.
 #[tactic(auto, unfolding(crate::specs::Dates::moment))]
 pub(crate) fn moment(text: &[u8]) -> Option<u64>
     ensures { result ≡ moment text.now }
@@ -58,7 +58,7 @@ fn is_date_mark(byte: u8) -> bool
     byte == b' ' || byte == b',' || byte == b'-'
 }
 
-/// Where these stand in the order of moments.
+/// The place of these among all moments.
 #[tactic(auto, unfolding(crate::specs::Dates::moment_of))]
 fn moment_of(day: &[u8], month: &[u8], year: &[u8], time: &[u8]) -> Option<u64>
     ensures { result ≡ moment_of day.now month.now year.now time.now }
