@@ -5,7 +5,7 @@ use std::alloc::{AllocError, Global};
 use std::process::Abort;
 
 /// The key as text, `-` where there is none.
-fn key<R: AllocGlobal + Abort>(
+pub(crate) fn key<R: AllocGlobal + Abort>(
     rt: &R,
     sample: KeySample,
     table: TableType,
@@ -18,7 +18,7 @@ fn key<R: AllocGlobal + Abort>(
     spelled(alloc, key.as_ref()).expect(rt, "memory")
 }
 
-fn spelled(alloc: Global, key: Option<&PinKey>) -> Result<String, AllocError> {
+pub(crate) fn spelled(alloc: Global, key: Option<&PinKey>) -> Result<String, AllocError> {
     match key {
         None => String::from_str(alloc, "-"),
         Some(PinKey::Ipv4(address)) => address.to_string(alloc),
@@ -27,7 +27,7 @@ fn spelled(alloc: Global, key: Option<&PinKey>) -> Result<String, AllocError> {
 }
 
 /// A table of addresses, or of texts of at most so many bytes.
-fn table_of(len: Option<u16>) -> TableType {
+pub(crate) fn table_of(len: Option<u16>) -> TableType {
     match len {
         None => TableType::Ip,
         Some(len) => TableType::Text(KeyLen::new(len.clamp(1, 1024))),
