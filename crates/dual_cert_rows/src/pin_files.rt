@@ -69,6 +69,6 @@ fn lines_of_pins_are_written_as_they_were_read(rt: HostRuntime) -> Result<(), Fa
     let name = Name::read(b"web")?;
     push_backend(&mut text, &name)?;
     push_pin(&mut text, &pin)?;
-    assert!(rt; text.as_slice() == b"backend web\npin ann a,b a 3 120000\n");
+    assert!(rt; text.as_slice() == b"backend web\npin ann a,b a 3 120000\n".as_slice());
     Ok(())
 }
