@@ -1,5 +1,5 @@
 -- Copying a part of a response, after so many bytes of it. Our own words.
-use Rattle.std.specs.Prelude.{◌≡◌, ℕ, ◌+◌, ◌-◌, ◌^◌, ◌<◌, min, Bool, true, false, List, length, Option, Result, Ok, Err}
+use Rattle.std.specs.Prelude.{◌≡◌, ℕ, ◌+◌, ◌-◌, ◌^◌, ◌<◌, min, ⊤, Bool, true, false, List, [], length, take, Option, Result, Ok, Err}
 use Rattle.std.specs.Io.KnownBytes.{prepend_known}
 use Rattle.http_relay_wire.specs.Wires.{Reading}
 use Rattle.http_relay_body.specs.Copies.{WentOut}
@@ -32,3 +32,22 @@ abbrev pub told : Result Progress CopyFault → Result ℕ CopyFault
 told (Ok (Ended count)) = Ok count
 told (Ok (Goes count)) = Ok count
 told (Err fault) = Err fault
+
+-- ---- a piece: what one read of the server gives
+
+-- the piece in the room, none where the read failed
+abbrev pub piece : Result ℕ CopyFault → List ℕ → List ℕ
+piece (Ok count) room = take count room
+piece (Err fault) room = []
+
+-- the cause of a fault is a read of the server, behind so many bytes
+abbrev pub IsOfServer : ℕ → CopyFault → Type 0
+IsOfServer before (NoResponse fault) = before ≡ 0
+IsOfServer before (CutShort fault) = 0 < before
+IsOfServer before (Client fault) = ⊥
+
+-- the cause of a fault is the client's wire
+abbrev pub IsOfClient : CopyFault → Type 0
+IsOfClient (NoResponse fault) = ⊥
+IsOfClient (CutShort fault) = ⊥
+IsOfClient (Client fault) = ⊤

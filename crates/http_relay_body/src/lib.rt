@@ -4,7 +4,8 @@
 //! past its end. Else it wrote a beginning of them, and the fault has its cause in that call. Either the client ended or failed where
 //! no body stood yet and more bytes could make one, or no more bytes could, or the server failed. `copy_back` copies what the server
 //! sends byte for byte until it ends. Where a read failed, all that was read before it went out; where a write failed, a beginning of
-//! it. `copy_piece` does a part of that, one read and one write, for a caller that waits for the server elsewhere. Each takes one buffer of
+//! it. `copy_piece` does a part of that, one read and one write, for a caller that waits for the server elsewhere;
+//! `read_piece` and `write_piece` are its halves, for a caller that looks at what was read before it goes out. Each takes one buffer of
 //! fixed size and no memory.
 //!
 //! Start at `send_body`, whose words are in `specs/Bodies.antt`. It rests on `length`, which passes on so many bytes by the words of
@@ -23,5 +24,5 @@ mod sending;
 
 pub use fault::BodyFault;
 pub use front::BodyFront;
-pub use response::{CopyFault, Progress, copy_back, copy_piece};
+pub use response::{CopyFault, Progress, copy_back, copy_piece, read_piece, write_piece};
 pub use sending::send_body;

@@ -1,7 +1,7 @@
-ghost use Rattle.std.specs.Prelude.{◌≡◌, ◌<◌, true, length, IfOk, OnOk, IsFalse, IsTrue};
-ghost use Rattle.std.specs.Io.KnownBytes.{IsAtEnd};
-ghost use Rattle.http_relay_body.specs.Copies.{Copied, server_faults, client_faults, fault_number};
-ghost use Rattle.http_relay_body.specs.Copying.{CopiedOn, has_ended, told};
+ghost use Rattle.std.specs.Prelude.{◌≡◌, ◌≤◌, ◌<◌, true, length, IfErr, IfOk, OnOk, IsFalse, IsTrue};
+ghost use Rattle.std.specs.Io.KnownBytes.{IsAtEnd, prepend_known};
+ghost use Rattle.http_relay_body.specs.Copies.{Copied, WentOut, server_faults, client_faults, fault_number};
+ghost use Rattle.http_relay_body.specs.Copying.{CopiedOn, IsOfClient, IsOfServer, TellsOn, has_ended, piece, told};
 
 use http_relay_wire::{Wire, WireFault, write_all};
 use thiserror::Error;
@@ -46,8 +46,43 @@ pub enum Progress {
     Goes(u64),
 }
 
-/// Copies what one read of the server gives, after so many bytes of the response. It answers how many these are with it, at most
-/// 2^64 - 1, or that the server has ended. It reads once, and writes all that it read. The fault says which of both failed.
+/// Reads a piece of a response into the front of the room, after so many bytes of it: what one read of the server gives. It answers how
+/// many bytes the piece has, none only if the server has ended.
+pub fn read_piece<S: Wire>(server: &mut S, room: &mut [u8], before: u64) -> Result<usize, CopyFault>
+    requires { 0 < length room.old }
+    ensures within { IfOk result (λ count. count ≤ length room.new) }
+    ensures read { (S.reading server.old).unread ≡ prepend_known (piece result room.new) (S.reading server.new).unread }
+    ensures ended { IfOk result (λ count. count ≡ 0 → IsAtEnd (S.reading server.new).unread × ((S.reading server.new).ended ≡ true)) }
+    ensures left { IfOk result (λ count. (S.reading server.new).left < (S.reading server.old).left) }
+    ensures fault { IfErr result (λ fault. IsOfServer before fault) }
+    ensures server { S.faults server.new ≡ server_faults result (S.faults server.old) }
+    ensures server_written { S.written server.new ≡ S.written server.old }
+{
+    match server.read(room) {
+        Ok(count) => Ok(count),
+        Err(fault) if before == 0 => Err(CopyFault::NoResponse(fault)),
+        Err(fault) => Err(CopyFault::CutShort(fault)),
+    }
+}
+
+/// Writes a piece of a response to the client, after so many bytes of it. It answers how many these are with the piece, at most
+/// 2^64 - 1. At a fault a beginning of the piece went out.
+pub fn write_piece<C: Wire>(client: &mut C, piece: &[u8], before: u64) -> Result<u64, CopyFault>
+    requires { 0 < length piece.now }
+    ensures tells { TellsOn before piece.now result }
+    ensures sent { WentOut (C.written client.old) (C.written client.new) piece.now result }
+    ensures fault { IfErr result (λ fault. IsOfClient fault) }
+    ensures client { C.faults client.new ≡ client_faults result (C.faults client.old) }
+    ensures client_reading { C.reading client.new ≡ C.reading client.old }
+{
+    match write_all(client, piece) {
+        Ok(()) => Ok(before.saturating_add(piece.len() as u64)),
+        Err(fault) => Err(CopyFault::Client(fault)),
+    }
+}
+
+/// Copies what one read of the server gives, after so many bytes of the response: `read_piece`, and then `write_piece`. It answers how many
+/// these are with it, at most 2^64 - 1, or that the server has ended. It reads once, and writes all that it read. The fault says which of both failed.
 pub fn copy_piece<S: Wire, C: Wire>(
     server: &mut S,
     client: &mut C,
@@ -64,16 +99,15 @@ pub fn copy_piece<S: Wire, C: Wire>(
     ensures server_written { S.written server.new ≡ S.written server.old }
     ensures client_reading { C.reading client.new ≡ C.reading client.old }
 {
-    let count = match server.read(room) {
+    let count = match read_piece(server, room, before) {
         Ok(0) => return Ok(Progress::Ended(before)),
         Ok(count) => count,
-        Err(fault) if before == 0 => return Err(CopyFault::NoResponse(fault)),
-        Err(fault) => return Err(CopyFault::CutShort(fault)),
+        Err(fault) => return Err(fault),
     };
-    if let Err(fault) = write_all(client, &room[..count]) {
-        return Err(CopyFault::Client(fault));
+    match write_piece(client, &room[..count], before) {
+        Ok(copied) => Ok(Progress::Goes(copied)),
+        Err(fault) => Err(fault),
     }
-    Ok(Progress::Goes(before.saturating_add(count as u64)))
 }
 
 /// Copies what the server sends to the client, byte for byte, until the server ends, and answers how many bytes it sent (never more
