@@ -13,15 +13,15 @@ use lb_desk_ports::{Clock, Gate, Port};
 use std::alloc::Global;
 
 /// Begins a request of the client, as `begin` of `http_relay_serve` does, and keeps it if it waits. It allocates no more than that.
-pub fn admit<R, T: Routing, P: Port<R>, K: Clock<R>, G: Gate<R>, D: Dialer<R>, C: Wire>(
+pub fn admit<'t, R, T: Routing, P: Port<R>, K: Clock<R>, G: Gate<R>, D: Dialer<R>, C: Wire>(
     rt: &R,
     alloc: Global,
     worker: &mut Worker<K, G, D>,
-    routing: &T,
+    routing: &'t T,
     ports: &mut [P],
     client: Client<C>,
     room: &mut [u8; HEAD_ROOM],
-    requests: &mut InFlight<T, P::Slot, D::Connection, C>,
+    requests: &mut InFlight<'t, T, P::Slot, D::Connection, C>,
 ) -> Progress<C>
     requires backends { T.backends routing.now ≤ length ports.old }
     requires ports { length ports.old ≡ requests.old.backends }

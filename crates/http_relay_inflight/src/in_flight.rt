@@ -10,13 +10,13 @@ use std::marker::{Model, PhantomData};
 
 /// The requests of one worker that wait, each under a key: those in flight. They were begun by routings of the type `T`. A key keeps its
 /// request until that is over, and only then may be given to another.
-pub struct InFlight<T, S, W, C> {
-    requests: Keyed<Underway<S, W, C>>,
+pub struct InFlight<'t, T, S, W, C> {
+    requests: Keyed<Underway<'t, S, W, C>>,
     backends: usize,
     routing: PhantomData<T>,
 }
 
-impl<T, S, W, C> Model for InFlight<T, S, W, C> {
+impl<'t, T, S, W, C> Model for InFlight<'t, T, S, W, C> {
     ghost use Rattle.http_relay_inflight.specs.Requests.{Requests, AreWithin};
 
     ghost Value = { Requests S W C };
@@ -26,7 +26,7 @@ impl<T, S, W, C> Model for InFlight<T, S, W, C> {
     ghost invariant = { λ s. AreWithin s.backends s.requests };
 }
 
-impl<T, S, W, C> InFlight<T, S, W, C> {
+impl<'t, T, S, W, C> InFlight<'t, T, S, W, C> {
     /// No request yet, and room for `most`, at this many backends. It allocates all its memory here; the only error is out of memory.
     pub fn with_capacity(alloc: Global, most: usize, backends: usize) -> Result<Self, AllocError>
         ensures empty { IfOk result (λ requests. requests.kept.places ≡ []) }
@@ -63,7 +63,7 @@ impl<T, S, W, C> InFlight<T, S, W, C> {
     }
 
     /// The request under the key, if there is one.
-    pub fn get(&self, key: usize) -> Option<&Underway<S, W, C>>
+    pub fn get(&self, key: usize) -> Option<&Underway<'t, S, W, C>>
         ensures { option_copied result ≡ at self.now.kept key }
     {
         self.requests.get(key)
@@ -80,7 +80,7 @@ impl<T, S, W, C> InFlight<T, S, W, C> {
     }
 
     /// Takes the request under the key out. The key is the next one that `insert` gives.
-    pub(crate) fn take(&mut self, key: usize) -> Underway<S, W, C>
+    pub(crate) fn take(&mut self, key: usize) -> Underway<'t, S, W, C>
         requires { HasKey self.old.kept key }
         ensures value { at self.old.kept key ≡ Some result }
         ensures within { result.backend < self.old.backends }
@@ -95,12 +95,12 @@ impl<T, S, W, C> InFlight<T, S, W, C> {
     }
 
     /// Keeps a request under the next key.
-    pub(crate) fn insert(&mut self, underway: Underway<S, W, C>) -> usize
+    pub(crate) fn insert(&mut self, underway: Underway<'t, S, W, C>) -> usize
         requires room { held self.old.kept < self.old.kept.most }
         requires within { underway.backend < self.old.backends }
         ensures key { result ≡ self.old.kept.next }
         ensures was_vacant { at self.old.kept result ≡ None }
-        ensures updates { Updates self.old.kept self.new.kept result (Some underway) }
+        ensures updates { Updates self.old.kept self.new.kept result (Some underway.entry) }
         ensures held { held self.new.kept ≡ held self.old.kept + 1 }
         ensures most { self.new.kept.most ≡ self.old.kept.most }
         ensures backends { self.new.backends ≡ self.old.backends }
@@ -111,7 +111,7 @@ impl<T, S, W, C> InFlight<T, S, W, C> {
     /// Ends it. There has to be no request.
     pub fn destroy_empty(self)
         requires { held self.kept ≡ 0 }
-        ensures { (key : ℕ) → at self.kept key ≡ None }
+        ensures { (key : ℕ) → at self.entry.kept key ≡ None }
     {
         let InFlight {
             requests,

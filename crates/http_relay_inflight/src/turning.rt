@@ -11,13 +11,13 @@ use http_relay_wire::Wire;
 use lb_desk_ports::{Clock, Port};
 
 /// Takes the request under the key one step on, as `go_on` of `http_relay_serve` does, once there is what it waits for. If it still waits, it
-/// is kept under the same key. It allocates nothing.
-pub fn turn<R, T: Routing, P: Port<R>, K: Clock<R>, G, D: Dialer<R>, C: Wire>(
+/// is kept under the same key. It allocates only to learn from a response.
+pub fn turn<'t, R, T: Routing, P: Port<R>, K: Clock<R>, G, D: Dialer<R>, C: Wire>(
     rt: &R,
     worker: &mut Worker<K, G, D>,
     ports: &mut [P],
     room: &mut [u8],
-    requests: &mut InFlight<T, P::Slot, D::Connection, C>,
+    requests: &mut InFlight<'t, T, P::Slot, D::Connection, C>,
     key: usize,
 ) -> Progress<C>
     requires ports { length ports.old ≡ requests.old.backends }

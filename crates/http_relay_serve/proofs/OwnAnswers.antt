@@ -15,6 +15,7 @@ use Rattle.http_relay_exchange.specs.Requests.{OutgoingView}
 use Rattle.http_relay_exchange.specs.declared.fault.ExchangeFault.TheVariants.{Send, Copy}
 use Rattle.http_relay_exchange.specs.declared.fault.SendFault.{SendFault}
 use Rattle.http_relay_exchange.specs.declared.fault.SendFault.TheVariants as send
+use Rattle.http_relay_talk.specs.Lessons.{Taught}
 use Rattle.http_relay_talk.specs.Talks.{UsesDialer}
 use Rattle.http_relay_talk.specs.declared.fault.TalkFault.TheVariants.{Dial as NotDialled, Exchange}
 use Rattle.http_relay_talk.specs.declared.fault.VisitFault.{VisitFault}
@@ -86,22 +87,22 @@ copy_is_quiet request client after server done (copy.CutShort fault) cause copie
 copy_is_quiet request client after server done (copy.Client fault) cause copied due = cc
 
 -- a visit that failed
-visit_is_quiet : (target : Target) (request : OutgoingView) (dials dialled : Option (List Dial)) (talks ended : Option (List Talk)) (failures failed : ℕ)
-    (client after : Talk) (fault : VisitFault) (cause : Cause) → UsesDialer target request dials dialled talks ended failures failed client after (Err fault)
+visit_is_quiet : (target : Target) (taught : Taught) (request : OutgoingView) (dials dialled : Option (List Dial)) (talks ended : Option (List Talk)) (failures failed : ℕ)
+    (client after : Talk) (fault : VisitFault) (cause : Cause) → UsesDialer target taught request dials dialled talks ended failures failed client after (Err fault)
     → of_visit fault ≡ Answered cause → Quiet client after
-visit_is_quiet target request dials dialled talks ended failures failed client after (visit.Refused refused) cause used due = inl (ap (λ (t : Talk). t.written) used.unseen)
-visit_is_quiet target request dials dialled talks ended failures failed client after visit.NotServing cause used due = inl (ap (λ (t : Talk). t.written) used.unseen)
-visit_is_quiet target request dials dialled talks ended failures failed client after visit.QueueOver cause used due = inl (ap (λ (t : Talk). t.written) used.unseen)
-visit_is_quiet target request dials dialled talks ended failures failed client after (visit.Talk (NotDialled fault)) cause used due = inl (ap (λ (t : Talk). t.written) used.unseen)
-visit_is_quiet target request dials dialled talks ended failures failed client after (visit.Talk (Exchange (Send fault))) cause used due =
+visit_is_quiet target taught request dials dialled talks ended failures failed client after (visit.Refused refused) cause used due = inl (ap (λ (t : Talk). t.written) used.unseen)
+visit_is_quiet target taught request dials dialled talks ended failures failed client after visit.NotServing cause used due = inl (ap (λ (t : Talk). t.written) used.unseen)
+visit_is_quiet target taught request dials dialled talks ended failures failed client after visit.QueueOver cause used due = inl (ap (λ (t : Talk). t.written) used.unseen)
+visit_is_quiet target taught request dials dialled talks ended failures failed client after (visit.Talk (NotDialled fault)) cause used due = inl (ap (λ (t : Talk). t.written) used.unseen)
+visit_is_quiet target taught request dials dialled talks ended failures failed client after (visit.Talk (Exchange (Send fault))) cause used due =
     send_is_quiet request client after used.0.first used.0.last fault cause used.0.exchanged due
-visit_is_quiet target request dials dialled talks ended failures failed client after (visit.Talk (Exchange (Copy fault))) cause used due =
+visit_is_quiet target taught request dials dialled talks ended failures failed client after (visit.Talk (Exchange (Copy fault))) cause used due =
     copy_is_quiet request client after used.0.first used.0.last fault cause used.0.exchanged due
 
 -- a response of no byte
-response_is_quiet : (target : Target) (request : OutgoingView) (dials dialled : Option (List Dial)) (talks ended : Option (List Talk)) (failures failed : ℕ)
-    (client after : Talk) (count : ℕ) → UsesDialer target request dials dialled talks ended failures failed client after (Ok count) → count ≡ 0 → Quiet client after
-response_is_quiet target request dials dialled talks ended failures failed client after count used none =
+response_is_quiet : (target : Target) (taught : Taught) (request : OutgoingView) (dials dialled : Option (List Dial)) (talks ended : Option (List Talk)) (failures failed : ℕ)
+    (client after : Talk) (count : ℕ) → UsesDialer target taught request dials dialled talks ended failures failed client after (Ok count) → count ≡ 0 → Quiet client after
+response_is_quiet target taught request dials dialled talks ended failures failed client after count used none =
     let copied = used.0.exchanged in
     sent_is_quiet request client copied.0 after copied.2.client_written
     (copies_nothing copied.1.reading used.0.last.reading copied.0.written after.written count copied.3.copied none)
@@ -113,7 +114,7 @@ fault_is_quiet : {S : Type 0} (server_of : S → ℕ) (routes : Routes) (backend
 fault_is_quiet server_of routes backend read old new before after Memory cause served due = inl (ap (λ (t : Talk). t.written) served.client)
 fault_is_quiet server_of routes backend read old new before after (Ask fault) cause served due = inl (ap (λ (t : Talk). t.written) served.client)
 fault_is_quiet server_of routes backend read old new before after (Visit fault) cause served due =
-    visit_is_quiet served.target _ _ _ _ _ _ _ before.client after.client fault cause served.uses_dialer due
+    visit_is_quiet served.target served.taught _ _ _ _ _ _ _ before.client after.client fault cause served.uses_dialer due
 
 -- a response of some bytes asks for no answer
 relayed_is_no_answer : (more : ℕ) (cause : Cause) → outcome_of (Ok (suc more)) ≡ Answered cause → ⊥
@@ -126,7 +127,7 @@ count_is_quiet : {S : Type 0} (server_of : S → ℕ) (routes : Routes) (backend
     (count : ℕ) (cause : Cause) → ServesAt server_of routes backend read old new before after (Ok count) → outcome_of (Ok count) ≡ Answered cause
     → Quiet before.client after.client
 count_is_quiet server_of routes backend read old new before after zero cause served due =
-    response_is_quiet served.target _ _ _ _ _ _ _ before.client after.client zero served.uses_dialer refl
+    response_is_quiet served.target served.taught _ _ _ _ _ _ _ before.client after.client zero served.uses_dialer refl
 count_is_quiet server_of routes backend read old new before after (suc more) cause served due = absurd (relayed_is_no_answer more cause due)
 
 -- what was quiet since the head was read

@@ -124,8 +124,9 @@ asked_and_visited server_of routes backend read target asking own old new clock 
       port = port_then;
       clock = clock_then;
       asks = asks_anywhere routes backend read.head target asking old clock told.0 asks told.1;
-      uses_port = uses.0;
-      uses_dialer = uses.1;
+      taught = uses.0;
+      uses_port = uses.1;
+      uses_dialer = uses.2;
     }
 
 -- ---- the whole
@@ -210,8 +211,8 @@ begun_and_over server_of wire routes backend read target request old asked_port 
     let paused = subst (Grows asked_clock.pauses later.pauses) (sym unpaused)
     (subst (λ p. Grows asked_clock.pauses p []) (sym same) (grows_none asked_clock.pauses)) in
     let uses = visited (recorded asked_port asked_clock dialer) (recorded new later done) asked_clock.pauses later.pauses adds paused in
-    visits server_of routes backend read old asked_port new asked_clock (scene clock dialer client) (scene later done now) target request answer asks is
-    uses.0 uses.1
+    visits server_of routes backend read old asked_port new asked_clock (scene clock dialer client) (scene later done now) target uses.0 request answer asks is
+    uses.1 uses.2
 
 -- a request that was found, and whose visit was begun, is under way
 pub is_serving : {P S W : Type 0} (seen : P → PortSeen) (server_of : S → ℕ) (wire : W → Talk) (routes : Routes) (source : Ipv4Addr) (ports used : List P)

@@ -16,7 +16,7 @@ use Rattle.lb_desk_model.specs.declared.reply.ServedAs.{ServedAs}
 use Rattle.lb_desk_ports.specs.Calls.{Grows}
 use Rattle.lb_desk_ports.specs.Ports.{AddsAsk}
 use Rattle.lb_desk_ports.specs.declared.replies.Asked.TheVariants as asked
-use Rattle.http_relay_serve.specs.Routes.{Routes}
+use Rattle.http_relay_serve.specs.Routes.{Routes, target_for}
 use Rattle.http_relay_serve.specs.Serves.{PortSeen, ClockSeen, DialerSeen, Scene, TakesHead, AsksAtMoment, ServesAt, Relays, outgoing}
 use Rattle.http_relay_serve.specs.Steps.{AddsAt, IsServing, IsVisiting, recorded}
 use Rattle.http_relay_serve.specs.declared.beginning.Begun.{Begun}
@@ -85,7 +85,7 @@ pub record IsAsking (routes : Routes) (backend : ℕ) (head : HeadView) (target 
   pub made_of_head : routes.asks backend head request
   pub how : ServedAs
   pub asks : AddsAsk request [] share.entries (Ok (asked.Served target.server how))
-  pub way : routes.target backend target.server ≡ Some target
+  pub way : target_for routes backend request target.server ≡ Some target
   pub only : share ≡ record nothing { entries = share.entries; told = request.moment ∷ [] }
 
 -- the backend was asked and named the server, and then the visit of that has begun and waits so

@@ -11,6 +11,7 @@ use Rattle.http_relay_head.specs.declared.fault.HeadFault.{HeadFault}
 use Rattle.http_relay_body.specs.Bodies.{IsBody, IsBodyOf}
 use Rattle.http_relay_dial.specs.Dials.{Dial, Talk}
 use Rattle.http_relay_exchange.specs.Requests.{OutgoingView}
+use Rattle.http_relay_talk.specs.Lessons.{Taught}
 use Rattle.http_relay_talk.specs.Talks.{UsesPort, UsesDialer}
 use Rattle.http_relay_talk.specs.declared.fault.VisitFault.{VisitFault}
 use Rattle.http_relay_talk.specs.declared.target.Target.{Target}
@@ -24,7 +25,7 @@ use Rattle.lb_desk_ports.specs.declared.refused.Refused.{Refused}
 use Rattle.lb_desk_ports.specs.declared.replies.Asked.{Asked}
 use Rattle.lb_desk_ports.specs.declared.replies.Asked.TheVariants as asked
 use Rattle.http_relay_serve.specs.Outcomes.{outcome_of, Ends}
-use Rattle.http_relay_serve.specs.Routes.{Routes}
+use Rattle.http_relay_serve.specs.Routes.{Routes, target_for}
 use Rattle.http_relay_serve.specs.declared.fault.AskFault.{AskFault}
 use Rattle.http_relay_serve.specs.declared.fault.AskFault.TheVariants as ask
 use Rattle.http_relay_serve.specs.declared.fault.BackendFault.{BackendFault}
@@ -89,9 +90,9 @@ pub record Asks (request : Request) (old new : PortSeen) (answer : Result Asked 
 -- the server's way is the one that the configuration has for the server that the backend named; or there is none, for this reason
 abbrev pub Places : Routes → ℕ → Request → PortSeen → PortSeen → Result Target AskFault → Type 0
 Places routes backend request old new (Ok target) =
-    (how : ServedAs) × Asks request old new (Ok (asked.Served target.server how)) × (routes.target backend target.server ≡ Some target)
+    (how : ServedAs) × Asks request old new (Ok (asked.Served target.server how)) × (target_for routes backend request target.server ≡ Some target)
 Places routes backend request old new (Err ask.UnknownServer) =
-    (server : ℕ) × (how : ServedAs) × Asks request old new (Ok (asked.Served server how)) × (routes.target backend server ≡ None)
+    (server : ℕ) × (how : ServedAs) × Asks request old new (Ok (asked.Served server how)) × (target_for routes backend request server ≡ None)
 Places routes backend request old new (Err ask.NoServer) = Asks request old new (Ok asked.NoServer)
 Places routes backend request old new (Err ask.NoSuchServer) = Asks request old new (Ok asked.NoSuchServer)
 Places routes backend request old new (Err (ask.Refused refused)) = Asks request old new (Err refused)
@@ -116,16 +117,19 @@ outgoing routes backend read = record {
   expects_continue = expects_continue read.head read.kind;
 }
 
--- the backend named a server, and that server was visited: a slot of it was got at most once and given back, and it alone was dialled
+-- the backend named a server, and that server was visited: a slot of it was got at most once and given back, and it alone was dialled. At most
+-- one pin was set, which its answer taught
 pub record Visits {S : Type 0} (server_of : S → ℕ) (routes : Routes) (backend : ℕ) (read : ReadHeadView) (old new : PortSeen)
     (before after : Scene) (answer : Result ℕ VisitFault) : Type 0 where
   pub target : Target
   pub port : PortSeen
   pub clock : ClockSeen
   pub asks : AsksAtMoment routes backend read.head old port before.clock clock (Ok target)
-  pub uses_port : UsesPort server_of target port.entries new.entries port.refusals new.refusals
+  -- the pin that the answer taught, if it taught one
+  pub taught : Taught
+  pub uses_port : UsesPort server_of target taught port.entries new.entries port.refusals new.refusals
       clock.told after.clock.told clock.pauses after.clock.pauses answer
-  pub uses_dialer : UsesDialer target (outgoing routes backend read) before.dialer.dials after.dialer.dials before.dialer.talks after.dialer.talks
+  pub uses_dialer : UsesDialer target taught (outgoing routes backend read) before.dialer.dials after.dialer.dials before.dialer.talks after.dialer.talks
       before.dialer.failures after.dialer.failures before.client after.client answer
 
 -- the clock was read, and nothing else was done

@@ -18,15 +18,15 @@ use std::alloc::Global;
 /// Begins to serve one request of the client, as `serve_one` does, up to where it waits for a connection to a server that is full, or
 /// for the first byte of the response. It waits for neither. While it reads the head, dials and sends it holds its thread. Memory is
 /// asked for as by `serve_one`. A request that waits needs the room no more.
-pub fn begin<R, T: Routing, P: Port<R>, K: Clock<R>, G: Gate<R>, D: Dialer<R>, C: Wire>(
+pub fn begin<'t, R, T: Routing, P: Port<R>, K: Clock<R>, G: Gate<R>, D: Dialer<R>, C: Wire>(
     rt: &R,
     alloc: Global,
     worker: &mut Worker<K, G, D>,
-    routing: &T,
+    routing: &'t T,
     ports: &mut [P],
     client: Client<C>,
     room: &mut [u8; HEAD_ROOM],
-) -> Step<P::Slot, D::Connection, C>
+) -> Step<'t, P::Slot, D::Connection, C>
     requires { T.backends routing.now ≤ length ports.old }
     ensures begins { Begins (port_seen P.entries P.refusals) P.server_of
         (talk_of D.Connection.written D.Connection.reading D.Connection.faults) (talk_of C.written C.reading C.faults)
@@ -53,23 +53,23 @@ pub fn begin<R, T: Routing, P: Port<R>, K: Clock<R>, G: Gate<R>, D: Dialer<R>, C
 }
 
 /// How far a request has come whose service was begun.
-enum Started<S, W> {
+enum Started<'t, S, W> {
     /// It waits at the backend of this number.
-    Waits(usize, Stage<S, W>),
+    Waits(usize, Stage<'t, S, W>),
     /// No more is done for it but an answer of the relay's own.
     Ended(Result<u64, ServeFault>),
 }
 
 /// Reads the head, and begins with the request at its backend.
-fn start<R, T: Routing, P: Port<R>, K: Clock<R>, G: Gate<R>, D: Dialer<R>, C: Wire>(
+fn start<'t, R, T: Routing, P: Port<R>, K: Clock<R>, G: Gate<R>, D: Dialer<R>, C: Wire>(
     rt: &R,
     alloc: Global,
     worker: &mut Worker<K, G, D>,
-    routing: &T,
+    routing: &'t T,
     ports: &mut [P],
     client: &mut Client<C>,
     room: &mut [u8; HEAD_ROOM],
-) -> Started<P::Slot, D::Connection>
+) -> Started<'t, P::Slot, D::Connection>
     requires { T.backends routing.now ≤ length ports.old }
     ensures starts { Starts (port_seen P.entries P.refusals) P.server_of
         (talk_of D.Connection.written D.Connection.reading D.Connection.faults)
@@ -111,24 +111,24 @@ fn start<R, T: Routing, P: Port<R>, K: Clock<R>, G: Gate<R>, D: Dialer<R>, C: Wi
 }
 
 /// How far a request has come at its backend.
-enum Begun<S, W> {
+enum Begun<'t, S, W> {
     /// It waits.
-    Waits(Stage<S, W>),
+    Waits(Stage<'t, S, W>),
     /// It was relayed, with so many bytes of a response, or not.
     Ended(Result<u64, BackendFault>),
 }
 
 /// Begins with a request whose head was read: asks its backend for a server, and begins the visit of that.
-fn begin_at<R, T: Routing, P: Port<R>, K: Clock<R>, G, D: Dialer<R>, C: Wire>(
+fn begin_at<'t, R, T: Routing, P: Port<R>, K: Clock<R>, G, D: Dialer<R>, C: Wire>(
     rt: &R,
     alloc: Global,
     worker: &mut Worker<K, G, D>,
-    routing: &T,
+    routing: &'t T,
     backend: usize,
     port: &mut P,
     read: &ReadHead<'_>,
     client: &mut C,
-) -> Begun<P::Slot, D::Connection>
+) -> Begun<'t, P::Slot, D::Connection>
     requires { backend < T.backends routing.now }
     ensures begins { BeginsAt P.server_of (talk_of D.Connection.written D.Connection.reading D.Connection.faults)
         (T.routes routing.now) backend read.now

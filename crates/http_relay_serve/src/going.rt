@@ -21,23 +21,24 @@ use lb_desk_ports::{Clock, Port};
 /// Takes a request one step on, once there is what it waits for. A pause that it waits for must have been made by then, by the clock or
 /// otherwise. In the queue it asks for a connection again, and goes on as `begin` does. Otherwise it copies what one read of the
 /// response gives, as much as the room holds. Once the visit of its server is over, it gives the client an answer of the relay's
-/// own where that is due. It asks for no memory. The ports are those of the configuration that the request began with.
-pub fn go_on<R, P: Port<R>, K: Clock<R>, G, D: Dialer<R>, C: Wire>(
+/// own where that is due. It asks for memory only to
+/// learn from the response. The ports are those of the configuration that the request began with.
+pub fn go_on<'t, R, P: Port<R>, K: Clock<R>, G, D: Dialer<R>, C: Wire>(
     rt: &R,
     worker: &mut Worker<K, G, D>,
     ports: &mut [P],
     room: &mut [u8],
-    underway: Underway<P::Slot, D::Connection, C>,
-) -> Step<P::Slot, D::Connection, C>
+    underway: Underway<'t, P::Slot, D::Connection, C>,
+) -> Step<'t, P::Slot, D::Connection, C>
     requires backend { underway.backend < length ports.old }
     requires room { 0 < length room.old }
     // Whatever the request has done at its server so far, and others since: with what this step adds to that, it comes to this.
     ensures steps { (target : Target) (request : OutgoingView) (own : Share) (headed : Talk)
         → IsVisiting P.server_of (talk_of D.Connection.written D.Connection.reading D.Connection.faults) target request own headed
-        (talk_of C.written C.reading C.faults underway.client.wire) underway.stage
+        (talk_of C.written C.reading C.faults underway.entry.client.wire) underway.entry.stage
         → GoesOn (port_seen P.entries P.refusals) P.server_of
         (talk_of D.Connection.written D.Connection.reading D.Connection.faults) (talk_of C.written C.reading C.faults)
-        target request own headed underway ports.old ports.new
+        target request own headed underway.entry ports.old ports.new
         (clock_seen K.told K.pauses worker.old.clock) (clock_seen K.told K.pauses worker.new.clock)
         (dialer_seen D.dials D.talks D.failures worker.old.dialer) (dialer_seen D.dials D.talks D.failures worker.new.dialer) result }
     ensures pauses { K.pauses worker.new.clock ≡ K.pauses worker.old.clock }
@@ -70,32 +71,32 @@ pub fn go_on<R, P: Port<R>, K: Clock<R>, G, D: Dialer<R>, C: Wire>(
 }
 
 /// How far a request has come at its server.
-enum Gone<S, W> {
+enum Gone<'t, S, W> {
     /// It waits.
-    Waits(Stage<S, W>),
+    Waits(Stage<'t, S, W>),
     /// The visit is over, with this answer.
     Over(Result<u64, VisitFault>),
 }
 
 /// Takes a request one step on at its server.
-fn go_on_at<R, P: Port<R>, K: Clock<R>, G, D: Dialer<R>, C: Wire>(
+fn go_on_at<'t, R, P: Port<R>, K: Clock<R>, G, D: Dialer<R>, C: Wire>(
     rt: &R,
     worker: &mut Worker<K, G, D>,
     port: &mut P,
     client: &mut C,
     room: &mut [u8],
-    stage: Stage<P::Slot, D::Connection>,
-) -> Gone<P::Slot, D::Connection>
+    stage: Stage<'t, P::Slot, D::Connection>,
+) -> Gone<'t, P::Slot, D::Connection>
     requires { 0 < length room.old }
     ensures steps { (target : Target) (request : OutgoingView) (own : Share) (headed : Talk)
         → IsVisiting P.server_of (talk_of D.Connection.written D.Connection.reading D.Connection.faults) target request own headed
-        (talk_of C.written C.reading C.faults client.old) stage
+        (talk_of C.written C.reading C.faults client.old) stage.entry
         → GoesOnAt P.server_of (talk_of D.Connection.written D.Connection.reading D.Connection.faults) target request own headed
         (talk_of C.written C.reading C.faults client.new)
         (port_seen P.entries P.refusals port.old) (port_seen P.entries P.refusals port.new)
         (clock_seen K.told K.pauses worker.old.clock) (clock_seen K.told K.pauses worker.new.clock)
         (dialer_seen D.dials D.talks D.failures worker.old.dialer) (dialer_seen D.dials D.talks D.failures worker.new.dialer)
-        (due (visit_of stage)) result }
+        (due (visit_of stage.entry)) result }
     ensures pauses { K.pauses worker.new.clock ≡ K.pauses worker.old.clock }
 {
     match stage {
@@ -105,18 +106,18 @@ fn go_on_at<R, P: Port<R>, K: Clock<R>, G, D: Dialer<R>, C: Wire>(
 }
 
 /// Asks for a connection again for a request in the queue.
-fn ask_on<R, P: Port<R>, K: Clock<R>, G, D: Dialer<R>, C: Wire>(
+fn ask_on<'t, R, P: Port<R>, K: Clock<R>, G, D: Dialer<R>, C: Wire>(
     rt: &R,
     worker: &mut Worker<K, G, D>,
     port: &mut P,
     client: &mut C,
     room: &mut [u8],
-    queued: Queued,
-) -> Gone<P::Slot, D::Connection>
+    queued: Queued<'t>,
+) -> Gone<'t, P::Slot, D::Connection>
     requires { 0 < length room.old }
     ensures steps { (target : Target) (request : OutgoingView) (own : Share) (headed : Talk)
         → IsVisiting {S = P.Slot} {W = D.Connection} P.server_of (talk_of D.Connection.written D.Connection.reading D.Connection.faults)
-        target request own headed (talk_of C.written C.reading C.faults client.old) (Queueing queued)
+        target request own headed (talk_of C.written C.reading C.faults client.old) (Queueing queued.entry)
         → GoesOnAt P.server_of (talk_of D.Connection.written D.Connection.reading D.Connection.faults) target request own headed
         (talk_of C.written C.reading C.faults client.new)
         (port_seen P.entries P.refusals port.old) (port_seen P.entries P.refusals port.new)
@@ -153,18 +154,18 @@ fn ask_on<R, P: Port<R>, K: Clock<R>, G, D: Dialer<R>, C: Wire>(
 }
 
 /// Copies what one read of the response gives, for a request that was sent.
-fn read_on<R, P: Port<R>, K: Clock<R>, G, D: Dialer<R>, C: Wire>(
+fn read_on<'t, R, P: Port<R>, K: Clock<R>, G, D: Dialer<R>, C: Wire>(
     rt: &R,
     worker: &mut Worker<K, G, D>,
     port: &mut P,
     client: &mut C,
     room: &mut [u8],
-    held: Held<P::Slot, D::Connection>,
-) -> Gone<P::Slot, D::Connection>
+    held: Held<'t, P::Slot, D::Connection>,
+) -> Gone<'t, P::Slot, D::Connection>
     requires { 0 < length room.old }
     ensures steps { (target : Target) (request : OutgoingView) (own : Share) (headed : Talk)
         → IsVisiting P.server_of (talk_of D.Connection.written D.Connection.reading D.Connection.faults) target request own headed
-        (talk_of C.written C.reading C.faults client.old) (Copying held)
+        (talk_of C.written C.reading C.faults client.old) (Copying held.entry)
         → GoesOnAt P.server_of (talk_of D.Connection.written D.Connection.reading D.Connection.faults) target request own headed
         (talk_of C.written C.reading C.faults client.new)
         (port_seen P.entries P.refusals port.old) (port_seen P.entries P.refusals port.new)

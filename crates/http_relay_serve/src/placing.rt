@@ -15,14 +15,14 @@ use std::alloc::Global;
 
 /// A request whose backend has named its server, with the head that the server gets.
 #[derive(Debug, Drop)]
-pub(crate) struct Prepared {
-    pub(crate) target: Target,
+pub(crate) struct Prepared<'t> {
+    pub(crate) target: Target<'t>,
     pub(crate) head: Vec<u8>,
     pub(crate) kind: BodyKind,
     pub(crate) expects_continue: bool,
 }
 
-impl Prepared {
+impl<'t> Prepared<'t> {
     /// The request as it is sent, with what was read after the client's head.
     pub(crate) fn outgoing<'a>(&'a self, behind: &'a [u8]) -> Outgoing<'a>
         ensures { result ≡ sends self.now behind.now }
@@ -31,9 +31,9 @@ impl Prepared {
     }
 
     /// The request for a wait in the queue. There has to be room in the head's memory for what was read after the client's head.
-    pub(crate) fn queue(self, behind: &[u8], queueing: Queueing) -> Queued
+    pub(crate) fn queue(self, behind: &[u8], queueing: Queueing) -> Queued<'t>
         requires { vec_len self.head + length behind.now ≤ vec_capacity self.head }
-        ensures { result ≡ record { target = self.target; request = sends self behind.now; queueing = queueing } }
+        ensures { result ≡ record { target = self.entry.target; request = sends self.entry behind.now; queueing = queueing } }
     {
         let Prepared {
             target,
@@ -49,24 +49,27 @@ impl Prepared {
     }
 }
 
-/// Asks the backend for the request's server, and finds how that is reached.
-fn ask<R, T: Routing, P: Port<R>>(
+/// Asks the backend for the request's server, and finds how that is reached and what its answer may teach.
+#[tactic(auto, using(crate::proofs::Stages::placed, crate::proofs::Stages::unplaced))]
+fn ask<'t, R, T: Routing, P: Port<R>>(
     rt: &R,
-    routing: &T,
+    alloc: Global,
+    routing: &'t T,
     backend: usize,
     port: &mut P,
     request: Request,
-) -> Result<Target, AskFault>
+) -> Result<Target<'t>, AskFault>
     requires { backend < T.backends routing.now }
     ensures { Places (T.routes routing.now) backend request (port_seen P.entries P.refusals port.old) (port_seen P.entries P.refusals port.new) result }
 {
+    let lesson = routing.lesson(alloc, backend, &request);
     let asked = match port.ask(rt, request) {
         Ok(asked) => asked,
         Err(refused) => return Err(AskFault::Refused(refused)),
     };
     match asked {
         Asked::Served(server, _) => match routing.target(backend, server) {
-            Some(target) => Ok(target),
+            Some(way) => Ok(Target::new(way, lesson)),
             None => Err(AskFault::UnknownServer),
         },
         Asked::NoServer => Err(AskFault::NoServer),
@@ -75,15 +78,15 @@ fn ask<R, T: Routing, P: Port<R>>(
 }
 
 /// Makes what the server gets of a request whose head was read, and asks its backend for the server. All memory is asked for before that.
-pub(crate) fn prepare<R, T: Routing, P: Port<R>, K: Clock<R>>(
+pub(crate) fn prepare<'t, R, T: Routing, P: Port<R>, K: Clock<R>>(
     rt: &R,
     alloc: Global,
     clock: &mut K,
-    routing: &T,
+    routing: &'t T,
     backend: usize,
     port: &mut P,
     read: &ReadHead<'_>,
-) -> Result<Prepared, BackendFault>
+) -> Result<Prepared<'t>, BackendFault>
     requires { backend < T.backends routing.now }
     ensures prepares { Prepares (T.routes routing.now) backend read.now
         (port_seen P.entries P.refusals port.old) (port_seen P.entries P.refusals port.new)
@@ -98,7 +101,7 @@ pub(crate) fn prepare<R, T: Routing, P: Port<R>, K: Clock<R>>(
     text.reserve(read.rest().len())?;
     let kind = read.body_kind();
     let waits = expects_continue(&head, kind);
-    match ask(rt, routing, backend, port, request) {
+    match ask(rt, alloc, routing, backend, port, request) {
         Ok(target) => Ok(Prepared {
             target,
             head: text,

@@ -1,7 +1,7 @@
 ghost use Rattle.std.specs.Prelude.{◌≡◌, ◌<◌, ℕ, IfOk, IfSome};
 ghost use Rattle.http_relay_serve.specs.Routes.{Routes};
 
-use http_relay_talk::Target;
+use http_relay_talk::{Lesson, Way};
 use lb_acl::Head;
 use lb_desk_model::Request;
 use lb_types::{Moment, ServerId};
@@ -39,8 +39,13 @@ pub trait Routing {
         ensures { result ≡ (routes self.now).forwards_address backend };
 
     /// How the backend's server of this number is reached, if there is one.
-    fn target(&self, backend: usize, server: ServerId) -> Option<Target>
+    fn target(&self, backend: usize, server: ServerId) -> Option<Way>
         requires { backend < backends self.now }
         ensures target { result ≡ (routes self.now).target backend server }
         ensures server { IfSome result (λ target. target.server ≡ server) };
+
+    /// What the answer to this request may teach the backend, if anything. It allocates nothing: `alloc` gives memory for what is learned.
+    fn lesson(&self, alloc: Global, backend: usize, request: &Request) -> Option<Lesson<'_>>
+        requires { backend < backends self.now }
+        ensures { result ≡ (routes self.now).lesson backend request.now };
 }

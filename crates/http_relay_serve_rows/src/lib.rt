@@ -19,6 +19,8 @@ mod heads;
 #[cfg(test)]
 mod joint_writes;
 #[cfg(test)]
+mod lessons;
+#[cfg(test)]
 mod queues;
 #[cfg(test)]
 mod requests;

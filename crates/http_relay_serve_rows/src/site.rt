@@ -5,7 +5,7 @@ ghost use Rattle.http_relay_dial.specs.declared.endpoint.Endpoint.{Endpoint};
 use http_relay_dial::{DialScript, Endpoint, Limits, ScriptedDialer};
 use http_relay_head::HEAD_ROOM;
 use http_relay_serve::{Client, Outcome, Routing, Worker, serve_one};
-use http_relay_talk::Target;
+use http_relay_talk::{Lesson, Way};
 use http_relay_wire::{FaultCounts, Script, ScriptedWire, WireFault};
 use lb_acl::{Head, KeySample, StickOn, TableType, pin_key};
 use lb_desk_model::{Entry, Event, Reply, Request, RuleList, ServedAs};
@@ -13,7 +13,7 @@ use lb_desk_ports::{
     Asked, Filed, OpenGate, Pinning, PortScript, Refused, ScriptedClock, ScriptedOpening,
     ScriptedPort, Shut,
 };
-use lb_types::{Moment, ServerId};
+use lb_types::{Moment, ServerId, ServerSet};
 use std::alloc::{AllocError, Global};
 use std::net::Ipv4Addr;
 use std::process::Abort;
@@ -57,9 +57,11 @@ struct Site<'a> {
     /// The backend takes all heads, or none.
     takes: bool,
     /// How the server is reached.
-    target: Target,
+    target: Way,
     forwards_address: bool,
     pattern: &'a StickOn,
+    /// Answers teach it cookies.
+    learns: bool,
 }
 
 impl Routing for Site<'_> {
@@ -72,6 +74,9 @@ impl Routing for Site<'_> {
       asks = λ backend head request. IsKeyOf site.pattern.now head request.key;
       forwards_address = λ backend. site.forwards_address;
       target = λ backend server. if server == site.target.server then Some site.target else None;
+      lesson = λ backend request. if site.learns
+          then Some (record { pattern = site.pattern.now; want = 0; cost = request.cost; moment = request.moment })
+          else None;
     } };
 
     fn backend(&self, _head: &Head<'_>) -> Option<usize> {
@@ -97,12 +102,25 @@ impl Routing for Site<'_> {
         self.forwards_address
     }
 
-    fn target(&self, _backend: usize, server: ServerId) -> Option<Target> {
+    fn target(&self, _backend: usize, server: ServerId) -> Option<Way> {
         if server == self.target.server {
             Some(self.target)
         } else {
             None
         }
+    }
+
+    fn lesson(&self, alloc: Global, _backend: usize, request: &Request) -> Option<Lesson<'_>> {
+        if !self.learns {
+            return None;
+        }
+        Some(Lesson::new(
+            alloc,
+            self.pattern,
+            ServerSet::empty(),
+            request.cost,
+            request.moment,
+        ))
     }
 }
 
@@ -158,8 +176,8 @@ pub(crate) fn open_port() -> PortScript<'static> {
 }
 
 // How the server is reached. Nobody waits for a connection.
-fn target() -> Target {
-    Target {
+fn target() -> Way {
+    Way {
         server: ServerId::new(SERVER),
         endpoint: Endpoint {
             address: Ipv4Addr::LOCALHOST,
@@ -173,22 +191,34 @@ fn target() -> Target {
     }
 }
 
-/// Serves the request, with a clock that stands at 7 ms, for a client at 10.0.0.7: whether it ends as is owed, and as many
-/// connections were given back as were opened.
-pub(crate) fn is_owed<R: Abort>(rt: &R, alloc: Global, call: &Call<'_>, owed: &Owed<'_>) -> bool {
+/// What became of a request, and where.
+#[derive(Drop)]
+pub(crate) struct Served<'a> {
+    pub(crate) outcome: Outcome,
+    pub(crate) client: ScriptedWire<'a>,
+    pub(crate) ports: Vec<ScriptedPort<'a>>,
+    dialer: ScriptedDialer<'a>,
+}
+
+/// Serves the request, with a clock that stands at 7 ms, for a client at 10.0.0.7. Pins have keys by this pattern, and with `learns` answers
+/// teach them.
+pub(crate) fn serve<'a, R: Abort>(
+    rt: &R,
+    alloc: Global,
+    call: &'a Call<'a>,
+    pattern: &StickOn,
+    learns: bool,
+) -> Served<'a> {
     let mut ports = Vec::new(alloc);
     ports
         .push(ScriptedPort::new(alloc, &call.port))
         .expect(rt, "memory");
-    let pattern = StickOn {
-        sample: KeySample::Source,
-        table: TableType::Ip,
-    };
     let site = Site {
         takes: call.is_taken,
         target: target(),
         forwards_address: call.is_tagged,
-        pattern: &pattern,
+        pattern,
+        learns,
     };
     let mut worker = Worker {
         clock: ScriptedClock::new(alloc, 7),
@@ -209,8 +239,24 @@ pub(crate) fn is_owed<R: Abort>(rt: &R, alloc: Global, call: &Call<'_>, owed: &O
         &mut client,
         &mut room,
     );
-    let talks = worker.dialer.talks().unwrap_or(&[]);
-    outcome == owed.outcome && is_as_owed(owed, &client.wire, talks, &ports)
+    Served {
+        outcome,
+        client: client.wire,
+        ports,
+        dialer: worker.dialer,
+    }
+}
+
+/// Serves the request at a site whose pins are addresses: whether it ends as is owed, and as many connections were given back as were
+/// opened.
+pub(crate) fn is_owed<R: Abort>(rt: &R, alloc: Global, call: &Call<'_>, owed: &Owed<'_>) -> bool {
+    let pattern = StickOn {
+        sample: KeySample::Source,
+        table: TableType::Ip,
+    };
+    let served = serve(rt, alloc, call, &pattern, false);
+    let talks = served.dialer.talks().unwrap_or(&[]);
+    served.outcome == owed.outcome && is_as_owed(owed, &served.client, talks, &served.ports)
 }
 
 // Whether client, server and backend have seen what is owed.

@@ -1,7 +1,7 @@
 use crate::farm::{SHOP, TOOLS, farm, head};
 use http_relay_dial::{Endpoint, Limits};
 use http_relay_serve::Routing;
-use http_relay_talk::Target;
+use http_relay_talk::Way;
 use lb_config::Config;
 use lb_routes::ConfigRoutes;
 use lb_types::ServerId;
@@ -10,11 +10,11 @@ use std::process::Abort;
 
 /// The last number of an address 127.0.0.x, a port, and the limits to connect, for each read and write, and in the queue, in
 /// milliseconds.
-type Way = (u8, u16, Option<u32>, Option<u32>, Option<u32>);
+type Reached = (u8, u16, Option<u32>, Option<u32>, Option<u32>);
 
 /// A frontend, a target that leads to a backend, whether servers there get the client's address, a server's number, and how it is
 /// reached.
-type Row = (usize, &'static str, bool, u8, Option<Way>);
+type Row = (usize, &'static str, bool, u8, Option<Reached>);
 
 const ROWS: &[Row] = &[
     (
@@ -57,12 +57,12 @@ const ROWS: &[Row] = &[
     (TOOLS, "/closed/", true, 0, None),
 ];
 
-fn is_way(found: Option<Target>, server: ServerId, wanted: Option<Way>) -> bool {
+fn is_way(found: Option<Way>, server: ServerId, wanted: Option<Reached>) -> bool {
     let (Some(target), Some((last, port, connect, transfer, queue))) = (found, wanted) else {
         return found.is_none() && wanted.is_none();
     };
     target
-        == Target {
+        == Way {
             server,
             endpoint: Endpoint {
                 address: Ipv4Addr::new(127, 0, 0, last),

@@ -1,11 +1,14 @@
 -- A connection to a server, and how it stood before it took the request's opening.
-use Rattle.std.proofs.Common.{◌≡◌, ℕ, ◌≤◌, List, [], length, take, Option, None, Some, refl, subst, ◌∙◌, ap}
+use Rattle.std.proofs.Common.{◌≡◌, ℕ, ◌≤◌, List, [], length, take, Option, None, Some, Err, refl, subst, sym, ◌∙◌, ap}
 use Rattle.std.specs.Prelude.{IfSome}
 use Rattle.std.specs.Option.{option_map}
 use Rattle.std.specs.Io.KnownBytes.{append_known}
 use Rattle.http_relay_dial.specs.Dials.{Talk, HasTaken, IsFresh}
 use Rattle.http_relay_exchange.specs.Requests.{OutgoingView, opening}
-use Rattle.http_relay_exchange.specs.Exchanges.{Began, wrote}
+use Rattle.http_relay_exchange.specs.Exchanges.{Began, Sent, wrote}
+use Rattle.http_relay_exchange.specs.declared.fault.SendFault.{SendFault}
+use Rattle.http_relay_exchange.specs.declared.fault.SendFault.TheVariants.{Continue, Head, Body}
+use Rattle.http_relay_wire.specs.Wires.{Reading}
 
 -- the connection, and nothing written to it
 abbrev pub untouched : Talk → Talk
@@ -36,3 +39,10 @@ began request bytes count talk is known = (
   ap (λ w. record talk { written = w }) (took talk.written (take count bytes) known.written)
       ∙ ap (λ xs. wrote (untouched talk) (take count xs)) is,
 )
+
+-- nothing is read of the server while a request is sent to it that couldn't be sent to its end
+pub reading_kept : (request : OutgoingView) (client after server sent : Talk) (fault : SendFault) → Sent request client after server sent (Err fault)
+    → server.reading.unread ≡ sent.reading.unread
+reading_kept request client after server sent (Continue fault) x = ap (λ (t : Talk). t.reading.unread) (sym x.1)
+reading_kept request client after server sent (Head fault) x = ap (λ (t : Talk). t.reading.unread) (sym x.1.2)
+reading_kept request client after server sent (Body fault) x = ap (λ (r : Reading). r.unread) (sym x.server_reading)

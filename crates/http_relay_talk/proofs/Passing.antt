@@ -11,6 +11,7 @@ use Rattle.http_relay_wire.specs.Wires.{Reading}
 use Rattle.lb_desk_ports.specs.Calls.{Grows}
 use Rattle.lb_desk_ports.specs.declared.refused.Refused.{Refused}
 use Rattle.http_relay_talk.proofs.Shares.{adds_twice, adds_nothing, joined_nothing, joined_thrice}
+use Rattle.http_relay_talk.specs.Lessons.{Taught}
 use Rattle.http_relay_talk.specs.Openings.{HasLeftQueue, IfQueueing, Passes, reads_left}
 use Rattle.http_relay_talk.specs.Shares.{Records, Share, nothing, joined}
 use Rattle.http_relay_talk.specs.Talks.{UsesPort, UsesDialer}
@@ -58,8 +59,8 @@ passes_twice server_of seen target request own client now after old mid new p0 p
 -- all steps are the visit
 pub visited : {S W : Type 0} (server_of : S → ℕ) (seen : W → Talk) (target : Target) (request : OutgoingView) (client after : Talk) (old new : Records)
     (before paused : Option (List ℕ)) (answer : Result ℕ VisitFault) → Passes {W = W} server_of seen target request nothing client after old new before paused (Done answer)
-    → UsesPort server_of target old.entries new.entries old.refusals new.refusals old.told new.told before paused answer
-    × UsesDialer target request old.dials new.dials old.talks new.talks old.failures new.failures client after answer
+    → (taught : Taught) × UsesPort server_of target taught old.entries new.entries old.refusals new.refusals old.told new.told before paused answer
+    × UsesDialer target taught request old.dials new.dials old.talks new.talks old.failures new.failures client after answer
 visited server_of seen target request client after old new before paused answer (share, adds, grown, visit) = visit old new before paused adds grown
 
 -- asking again brings a visit nearer to its end

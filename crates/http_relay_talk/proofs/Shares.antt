@@ -7,7 +7,7 @@ use Rattle.lb_desk_ports.specs.declared.refused.Refused.{Refused}
 use Rattle.http_relay_queue.proofs.Waits.{grows_none, grows_more}
 use Rattle.http_relay_talk.specs.Shares.{Records, Share, nothing, joined, after_refusals, after_failures, Notes, Adds}
 
-refusals_append : (xs ys : List Refused) (count : ℕ) → after_refusals (xs ++ ys) count ≡ after_refusals ys (after_refusals xs count)
+pub refusals_append : (xs ys : List Refused) (count : ℕ) → after_refusals (xs ++ ys) count ≡ after_refusals ys (after_refusals xs count)
 refusals_append [] ys count = refl
 refusals_append (x ∷ xs) ys count = refusals_append xs ys (counted count)
 

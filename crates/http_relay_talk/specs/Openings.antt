@@ -11,7 +11,8 @@ use Rattle.http_relay_queue.specs.declared.asking.Queueing as queue
 use Rattle.http_relay_wire.specs.Wires.{Reading}
 use Rattle.lb_desk_ports.specs.Calls.{Grows}
 use Rattle.lb_desk_ports.specs.declared.refused.Refused.{Refused}
-use Rattle.http_relay_talk.specs.Shares.{Records, Share, Adds, joined}
+use Rattle.http_relay_talk.specs.Lessons.{untaught}
+use Rattle.http_relay_talk.specs.Shares.{Records, Share, Adds, joined, refusals_of}
 use Rattle.http_relay_talk.specs.Talks.{Talked}
 use Rattle.http_relay_talk.specs.Visits.{Stands}
 use Rattle.http_relay_talk.specs.declared.fault.TalkFault.{TalkFault}
@@ -22,11 +23,6 @@ use Rattle.http_relay_talk.specs.declared.target.Target.{Target}
 use Rattle.http_relay_talk.specs.declared.underway.Step.{Step}
 use Rattle.http_relay_talk.specs.declared.underway.Step.TheVariants.{Waits, Done}
 use Rattle.http_relay_talk.specs.declared.underway.Underway.TheVariants.{Queueing, Copying}
-
--- the refusals of one call
-abbrev pub refusals_of : {A : Type 0} → Result A Refused → List Refused
-refusals_of (Ok answer) = []
-refusals_of (Err refused) = refused ∷ []
 
 -- the request has asked for a connection, the last time with this answer, and has done nothing else
 pub record HasAsked {S : Type 0} (server_of : S → ℕ) (target : Target) (own : Share) (asking : Result (Asking S) Refused) : Type 0 where
@@ -46,7 +42,7 @@ DialsAndSends seen target request dials dialled talks ended failures failed clie
     × Sent request client after first (seen connection) (Ok tt)
     × (ended ≡ talks) × (failed ≡ failures)
 DialsAndSends seen target request dials dialled talks ended failures failed client after (Err fault) =
-    Talked target.endpoint target.limits request dials dialled talks ended failures failed client after (Err fault)
+    Talked target untaught request dials dialled talks ended failures failed client after (Err fault)
 
 -- the answer of a visit whose request was sent, by that of the copying
 abbrev pub visit_answer : Result ℕ CopyFault → Result ℕ VisitFault

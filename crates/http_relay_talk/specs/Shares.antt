@@ -1,5 +1,5 @@
 -- What one request does of all that is recorded at a port, of a clock and at a dialer that serve several requests. Our own words.
-use Rattle.std.specs.Prelude.{◌≡◌, ℕ, List, [], ◌∷◌, ◌++◌, Option}
+use Rattle.std.specs.Prelude.{◌≡◌, ℕ, List, [], ◌∷◌, ◌++◌, Option, Result, Ok, Err}
 use Rattle.http_relay_dial.specs.Dials.{Dial, Talk}
 use Rattle.http_relay_wire.specs.Faults.{one_more}
 use Rattle.http_relay_wire.specs.declared.fault.WireFault.{WireFault}
@@ -53,6 +53,11 @@ joined first then = record {
   talks = first.talks ++ then.talks;
   failures = first.failures ++ then.failures;
 }
+
+-- the refusals of one call
+abbrev pub refusals_of : {A : Type 0} → Result A Refused → List Refused
+refusals_of (Ok answer) = []
+refusals_of (Err refused) = refused ∷ []
 
 -- a count of refusals after these, up to 2^64 - 1
 abbrev pub after_refusals : List Refused → ℕ → ℕ

@@ -1,5 +1,5 @@
 -- A visit of a server in steps, with what others do between them. Our own words.
-use Rattle.std.specs.Prelude.{◌≡◌, ℕ, ◌<◌, ⊤, List, [], ◌∷◌, Option, Result, Ok}
+use Rattle.std.specs.Prelude.{◌≡◌, ℕ, ◌<◌, ⊤, List, [], ◌∷◌, ◌++◌, Option, Some, Result, Ok}
 use Rattle.http_relay_body.specs.Copies as response
 use Rattle.http_relay_body.specs.Copying.{CopiedOn}
 use Rattle.http_relay_body.specs.declared.response.CopyFault.{CopyFault}
@@ -10,10 +10,14 @@ use Rattle.http_relay_queue.specs.Asks.{HasEnded, IsQueueing, pauses_left}
 use Rattle.http_relay_queue.specs.declared.asking.Queueing as queue
 use Rattle.http_relay_queue.specs.declared.queue.Waited.TheVariants.{Opened}
 use Rattle.http_relay_wire.specs.Wires.{Reading}
+use Rattle.lb_desk_model.specs.declared.entry.Entry.{Entry}
 use Rattle.lb_desk_ports.specs.Calls.{Grows}
+use Rattle.http_relay_talk.specs.Lessons.{LessonView, Learns, Taught, Teaches, untaught}
 use Rattle.http_relay_talk.specs.Shares.{Records, Share, Adds, joined}
 use Rattle.http_relay_talk.specs.Talks.{UsesPort, UsesDialer}
 use Rattle.http_relay_talk.specs.declared.fault.VisitFault.{VisitFault}
+use Rattle.http_relay_talk.specs.declared.learning.Learning.{Learning}
+use Rattle.http_relay_talk.specs.declared.learning.Learning.TheVariants.{Over, Goes}
 use Rattle.http_relay_talk.specs.declared.target.Target.{Target}
 use Rattle.http_relay_talk.specs.declared.underway.Awaits.{Awaits}
 use Rattle.http_relay_talk.specs.declared.underway.Awaits.TheVariants.{Pause, Readable}
@@ -28,8 +32,8 @@ use Rattle.http_relay_talk.specs.declared.underway.Underway.TheVariants.{Queuein
 abbrev pub IsVisit : {S : Type 0} → (S → ℕ) → Target → OutgoingView → Share → Talk → Talk → Result ℕ VisitFault → Type 0
 IsVisit server_of target request share client after answer = (old new : Records) (before paused : Option (List ℕ))
     → Adds share old new → Grows before paused share.pauses
-    → UsesPort server_of target old.entries new.entries old.refusals new.refusals old.told new.told before paused answer
-    × UsesDialer target request old.dials new.dials old.talks new.talks old.failures new.failures client after answer
+    → (taught : Taught) × UsesPort server_of target taught old.entries new.entries old.refusals new.refusals old.told new.told before paused answer
+    × UsesDialer target taught request old.dials new.dials old.talks new.talks old.failures new.failures client after answer
 
 -- a part of a response was copied, after so many bytes of it: what was read of the server went out to the client
 pub record CopiesFrom (count : ℕ) (client after : Talk) (server drained : Talk) (answer : Result ℕ CopyFault) : Type 0 where
@@ -38,6 +42,13 @@ pub record CopiesFrom (count : ℕ) (client after : Talk) (server drained : Talk
   pub server_faults : drained.faults ≡ response.server_faults answer server.faults
   pub client_reading : after.reading ≡ client.reading
   pub server_written : drained.written ≡ server.written
+
+-- So much of the server's answer was read, and this was learned. Where more of it may still teach, nothing was learned yet, and what was
+-- read is kept
+abbrev pub IsLearning : Option LessonView → ℕ → List ℕ → Learning → Taught → Type 0
+IsLearning lesson server answer Over taught = Learns lesson server answer taught
+IsLearning lesson server answer (Goes front) taught =
+    (lesson ≡ Some front.lesson) × (front.server ≡ server) × (front.bytes.items ≡ answer) × (taught ≡ untaught)
 
 -- the request has asked for a connection and waits in the queue, and the client has seen nothing
 pub record Queues (target : Target) (own : Share) (client now : Talk) (queueing : queue.Queueing) : Type 0 where
@@ -48,12 +59,16 @@ pub record Queues (target : Target) (own : Share) (client now : Talk) (queueing 
   pub none_failed : own.failures ≡ []
   pub unseen : now ≡ client
 
--- the request has got this slot of the server, dialled it, and was sent; since then this much was copied, and nothing was given back
+-- the request has got this slot of the server, dialled it, and was sent; since then this was learned and this much was copied, and nothing
+-- was given back
 pub record Holds {S : Type 0} (server_of : S → ℕ) (target : Target) (request : OutgoingView) (own : Share) (client now : Talk)
-    (slot : S) (connection : Talk) (Copies : Talk → Talk → Talk → Talk → Type 0) : Type 0 where
+    (slot : S) (connection : Talk) (Copies : Taught → Talk → Talk → Talk → Talk → Type 0) : Type 0 where
   pub of : server_of slot ≡ target.server
-  pub opened : HasEnded target.queue target.server own.entries own.told own.pauses (Ok (Opened slot))
-  pub none_refused : own.refusals ≡ []
+  pub asked : List Entry
+  pub taught : Taught
+  pub opened : HasEnded target.queue target.server asked own.told own.pauses (Ok (Opened slot))
+  pub entries : own.entries ≡ asked ++ taught.entries
+  pub refusals : own.refusals ≡ taught.refusals
   pub first : Talk
   pub fresh : IsFresh first
   pub dial : own.dials ≡ record { endpoint = target.endpoint; limits = target.limits; answer = Ok first.reading } ∷ []
@@ -62,12 +77,13 @@ pub record Holds {S : Type 0} (server_of : S → ℕ) (target : Target) (request
   pub between : Talk
   pub sent : Talk
   pub request_sent : Sent request client between first sent (Ok tt)
-  pub copies : Copies between now sent connection
+  pub copies : Copies taught between now sent connection
 
--- so many bytes of the response were copied
+-- so many bytes of the response were copied, and learned from
 abbrev pub IsCopying : {S W : Type 0} → (S → ℕ) → (W → Talk) → Target → OutgoingView → Share → Talk → Talk → Held S W → Type 0
 IsCopying server_of seen target request own client now held = Holds server_of target request own client now held.slot (seen held.connection)
-    (λ between now sent connection. CopiesFrom 0 between now sent connection (Ok held.copied))
+    (λ taught between now sent connection. CopiesFrom 0 between now sent connection (Ok held.copied)
+    × Teaches sent.reading connection.reading (λ text. IsLearning target.lesson target.server text held.learning taught))
 
 -- with what the request has done by now, and the client's connection as it was when it began and as it is now, the visit is under way
 abbrev pub IsUnderway : {S W : Type 0} → (S → ℕ) → (W → Talk) → Target → OutgoingView → Share → Talk → Talk → Underway S W → Type 0

@@ -13,15 +13,15 @@ use lb_desk_ports::{Clock, Port};
 
 /// Begins a visit: asks for a connection to the server, and if it gets one dials and sends the request. It reads nothing of the
 /// response, and waits neither for that nor while the server is full. While it dials and sends it holds its thread.
-pub fn begin_visit<R, P: Port<R>, K: Clock<R>, D: Dialer<R>, C: Wire>(
+pub fn begin_visit<'a, R, P: Port<R>, K: Clock<R>, D: Dialer<R>, C: Wire>(
     rt: &R,
     port: &mut P,
     clock: &mut K,
     dialer: &mut D,
-    target: &Target,
+    target: &Target<'a>,
     request: &Outgoing<'_>,
     client: &mut C,
-) -> Step<P::Slot, D::Connection>
+) -> Step<'a, P::Slot, D::Connection>
     ensures steps { Steps P.server_of (talk_of D.Connection.written D.Connection.reading D.Connection.faults) target.now request.now nothing
         (talk_of C.written C.reading C.faults client.old) (talk_of C.written C.reading C.faults client.new)
         (records P.entries P.refusals D.dials D.talks D.failures port.old (K.told clock.old) dialer.old)

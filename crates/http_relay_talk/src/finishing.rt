@@ -2,6 +2,7 @@ ghost use Rattle.std.specs.Prelude.{◌≡◌, [], ℕ, List, Option};
 ghost use Rattle.http_relay_dial.specs.Dials.{Talk, talk_of};
 ghost use Rattle.http_relay_exchange.specs.Exchanges.{CopiesBack};
 ghost use Rattle.http_relay_exchange.specs.Requests.{OutgoingView};
+ghost use Rattle.http_relay_talk.specs.Lessons.{Learns, Teaches};
 ghost use Rattle.http_relay_talk.specs.Openings.{visit_answer};
 ghost use Rattle.http_relay_talk.specs.Shares.{Share, records};
 ghost use Rattle.http_relay_talk.specs.Visits.{Holds, Steps};
@@ -25,7 +26,8 @@ pub(crate) fn finish<R, P: Port<R>, D: Dialer<R>>(
 ) -> Result<u64, VisitFault>
     ensures { (target : Target) (request : OutgoingView) (own : Share) (client : Talk) (now : Talk) (told : Option (List ℕ))
         → Holds P.server_of target request own client now slot (talk_of D.Connection.written D.Connection.reading D.Connection.faults connection)
-        (λ between now sent connection. CopiesBack between now sent connection answer)
+        (λ taught between now sent connection. CopiesBack between now sent connection answer
+        × Teaches sent.reading connection.reading (λ text. Learns target.lesson target.server text taught))
         → Steps P.server_of (talk_of D.Connection.written D.Connection.reading D.Connection.faults) target request own client now
         (records P.entries P.refusals D.dials D.talks D.failures port.old told dialer.old)
         (records P.entries P.refusals D.dials D.talks D.failures port.new told dialer.new) [] (Done result) }

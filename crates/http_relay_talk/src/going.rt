@@ -9,7 +9,7 @@ ghost use Rattle.http_relay_talk.specs.declared.underway.Underway.TheVariants.{C
 use crate::finishing::finish;
 use crate::opening::after_asking;
 use crate::{Held, Step, Target, Underway};
-use http_relay_body::{Progress, copy_piece};
+use http_relay_body::{read_piece, write_piece};
 use http_relay_dial::Dialer;
 use http_relay_exchange::Outgoing;
 use http_relay_queue::ask_again;
@@ -20,28 +20,28 @@ use lb_desk_ports::{Clock, Port};
 /// otherwise. A visit in the queue asks for a connection again, and goes on as `begin_visit` does. Another copies what one read of the
 /// response gives, as much as the room holds; at the end of the response, or if something failed, it hangs up and gives the slot
 /// back. Target and request are those that the visit began with.
-pub fn go_on<R, P: Port<R>, K: Clock<R>, D: Dialer<R>, C: Wire>(
+pub fn go_on<'a, R, P: Port<R>, K: Clock<R>, D: Dialer<R>, C: Wire>(
     rt: &R,
     port: &mut P,
     clock: &mut K,
     dialer: &mut D,
-    target: &Target,
+    target: &Target<'a>,
     request: &Outgoing<'_>,
     room: &mut [u8],
-    underway: Underway<P::Slot, D::Connection>,
+    underway: Underway<'a, P::Slot, D::Connection>,
     client: &mut C,
-) -> Step<P::Slot, D::Connection>
+) -> Step<'a, P::Slot, D::Connection>
     requires { 0 < length room.old }
     // Whatever the visit has done so far, and others since: with what this step adds to that, it stands so.
     ensures steps { (own : Share) (before : Talk)
         → IsUnderway P.server_of (talk_of D.Connection.written D.Connection.reading D.Connection.faults) target.now request.now own before
-        (talk_of C.written C.reading C.faults client.old) underway
+        (talk_of C.written C.reading C.faults client.old) underway.entry
         → Steps P.server_of (talk_of D.Connection.written D.Connection.reading D.Connection.faults) target.now request.now own before
         (talk_of C.written C.reading C.faults client.new)
         (records P.entries P.refusals D.dials D.talks D.failures port.old (K.told clock.old) dialer.old)
-        (records P.entries P.refusals D.dials D.talks D.failures port.new (K.told clock.new) dialer.new) (due underway) result }
+        (records P.entries P.refusals D.dials D.talks D.failures port.new (K.told clock.new) dialer.new) (due underway.entry) result }
     ensures pauses { K.pauses clock.new ≡ K.pauses clock.old }
-    ensures nears { Nears target.now.queue D.Connection.reading underway result }
+    ensures nears { Nears target.now.queue D.Connection.reading underway.entry result }
 {
     match underway {
         Underway::Queueing(queueing) => {
@@ -52,41 +52,48 @@ pub fn go_on<R, P: Port<R>, K: Clock<R>, D: Dialer<R>, C: Wire>(
     }
 }
 
-/// Takes a visit whose request was sent one step on, as `go_on` does. It needs neither target nor request: a visit that waits for its
+/// Takes a visit whose request was sent one step on, as `go_on` does. What the bytes teach that were read is learned before they are written.
+/// It needs neither target nor request: a visit that waits for its
 /// server has to keep neither.
-pub fn copy_on<R, P: Port<R>, D: Dialer<R>, C: Wire>(
+pub fn copy_on<'a, R, P: Port<R>, D: Dialer<R>, C: Wire>(
     rt: &R,
     port: &mut P,
     dialer: &mut D,
     room: &mut [u8],
-    held: Held<P::Slot, D::Connection>,
+    held: Held<'a, P::Slot, D::Connection>,
     client: &mut C,
-) -> Step<P::Slot, D::Connection>
+) -> Step<'a, P::Slot, D::Connection>
     requires { 0 < length room.old }
     // Whatever the visit has done so far, and others since: with what this step adds to that, it stands so. The clock isn't read.
     ensures steps { (target : Target) (request : OutgoingView) (own : Share) (before : Talk) (told : Option (List ℕ))
         → IsCopying P.server_of (talk_of D.Connection.written D.Connection.reading D.Connection.faults) target request own before
-        (talk_of C.written C.reading C.faults client.old) held
+        (talk_of C.written C.reading C.faults client.old) held.entry
         → Steps P.server_of (talk_of D.Connection.written D.Connection.reading D.Connection.faults) target request own before
         (talk_of C.written C.reading C.faults client.new)
         (records P.entries P.refusals D.dials D.talks D.failures port.old told dialer.old)
         (records P.entries P.refusals D.dials D.talks D.failures port.new told dialer.new) [] result }
-    ensures nears { (limit : Option ℕ) → Nears limit D.Connection.reading (Copying held) result }
+    ensures nears { (limit : Option ℕ) → Nears limit D.Connection.reading (Copying held.entry) result }
 {
     let Held {
         slot,
         mut connection,
         copied,
+        learning,
     } = held;
-    match copy_piece(&mut connection, client, room, copied) {
-        Ok(Progress::Goes(copied)) => Step::Waits(Underway::Copying(Held {
+    let count = match read_piece(&mut connection, room, copied) {
+        Ok(0) => return Step::Done(finish(rt, port, dialer, slot, connection, Ok(copied))),
+        Ok(count) => count,
+        Err(fault) => return Step::Done(finish(rt, port, dialer, slot, connection, Err(fault))),
+    };
+    let piece = &room[..count];
+    let learning = learning.learn(rt, port, piece);
+    match write_piece(client, piece, copied) {
+        Ok(copied) => Step::Waits(Underway::Copying(Held {
             slot,
             connection,
             copied,
+            learning,
         })),
-        Ok(Progress::Ended(copied)) => {
-            Step::Done(finish(rt, port, dialer, slot, connection, Ok(copied)))
-        }
         Err(fault) => Step::Done(finish(rt, port, dialer, slot, connection, Err(fault))),
     }
 }

@@ -6,7 +6,7 @@ ghost use Rattle.http_relay_talk.specs.Openings.{DialsAndSends, HasAsked, HasLef
 ghost use Rattle.http_relay_talk.specs.Shares.{Share, records};
 ghost use Rattle.http_relay_talk.specs.Visits.{Steps};
 
-use crate::{Held, Step, TalkFault, Target, Underway, VisitFault};
+use crate::{Held, Learning, Step, TalkFault, Target, Underway, VisitFault};
 use http_relay_dial::Dialer;
 use http_relay_exchange::{ExchangeFault, Outgoing, send_request};
 use http_relay_queue::{Asking, Waited};
@@ -14,15 +14,15 @@ use http_relay_wire::Wire;
 use lb_desk_ports::{Port, Refused};
 
 /// Goes on with a visit that has asked for a connection with this answer.
-pub(crate) fn after_asking<R, P: Port<R>, D: Dialer<R>, C: Wire>(
+pub(crate) fn after_asking<'a, R, P: Port<R>, D: Dialer<R>, C: Wire>(
     rt: &R,
     port: &mut P,
     dialer: &mut D,
-    target: &Target,
+    target: &Target<'a>,
     request: &Outgoing<'_>,
     asking: Result<Asking<P::Slot>, Refused>,
     client: &mut C,
-) -> Step<P::Slot, D::Connection>
+) -> Step<'a, P::Slot, D::Connection>
     ensures steps { (own : Share) (told : Option (List ℕ)) → HasAsked P.server_of target.now own asking
         → Steps P.server_of (talk_of D.Connection.written D.Connection.reading D.Connection.faults) target.now request.now own
         (talk_of C.written C.reading C.faults client.old) (talk_of C.written C.reading C.faults client.new)
@@ -43,15 +43,15 @@ pub(crate) fn after_asking<R, P: Port<R>, D: Dialer<R>, C: Wire>(
 }
 
 /// Dials the server and sends the request, for a visit that has got this slot. If that fails, the slot is given back.
-fn send<R, P: Port<R>, D: Dialer<R>, C: Wire>(
+fn send<'a, R, P: Port<R>, D: Dialer<R>, C: Wire>(
     rt: &R,
     port: &mut P,
     dialer: &mut D,
-    target: &Target,
+    target: &Target<'a>,
     request: &Outgoing<'_>,
     slot: P::Slot,
     client: &mut C,
-) -> Step<P::Slot, D::Connection>
+) -> Step<'a, P::Slot, D::Connection>
     ensures steps { (own : Share) (told : Option (List ℕ)) → HasAsked P.server_of target.now own (Ok (Ended (Opened slot)))
         → Steps P.server_of (talk_of D.Connection.written D.Connection.reading D.Connection.faults) target.now request.now own
         (talk_of C.written C.reading C.faults client.old) (talk_of C.written C.reading C.faults client.new)
@@ -64,6 +64,7 @@ fn send<R, P: Port<R>, D: Dialer<R>, C: Wire>(
             slot,
             connection,
             copied: 0,
+            learning: Learning::new(target),
         })),
         Err(fault) => {
             let _shut = port.shut(rt, slot);
@@ -76,7 +77,7 @@ fn send<R, P: Port<R>, D: Dialer<R>, C: Wire>(
 fn dial_and_send<R, D: Dialer<R>, C: Wire>(
     rt: &R,
     dialer: &mut D,
-    target: &Target,
+    target: &Target<'_>,
     request: &Outgoing<'_>,
     client: &mut C,
 ) -> Result<D::Connection, TalkFault>

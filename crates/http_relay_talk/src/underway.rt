@@ -1,24 +1,26 @@
 ghost use Rattle.std.specs.Prelude.{◌≡◌};
 ghost use Rattle.http_relay_talk.specs.Visits.{awaits, copied};
 
-use crate::VisitFault;
+use crate::{Learning, VisitFault};
 use http_relay_queue::{PAUSE, Queueing};
 
 /// What a visit holds whose request was sent: the connection that is open at the server, which is dialled. It can't be dropped. A visit that
 /// goes on to its end gives both back.
-pub struct Held<S, W> {
+pub struct Held<'a, S, W> {
     pub slot: S,
     pub connection: W,
     /// How many bytes of the response were copied, at most 2^64 - 1.
     pub copied: u64,
+    /// What was learned from the response.
+    pub learning: Learning<'a>,
 }
 
-/// A visit that waits. It has no buffer, and no thread has to stay with it.
-pub enum Underway<S, W> {
+/// A visit that waits. It has no buffer, but for the beginning of a response that may still teach something, and no thread has to stay with it.
+pub enum Underway<'a, S, W> {
     /// The server is full.
     Queueing(Queueing),
     /// The request was sent, and the server may send more of the response.
-    Copying(Held<S, W>),
+    Copying(Held<'a, S, W>),
 }
 
 /// What a visit waits for.
@@ -30,7 +32,7 @@ pub enum Awaits {
     Readable,
 }
 
-impl<S, W> Underway<S, W> {
+impl<S, W> Underway<'_, S, W> {
     /// What the visit waits for, before `go_on` is worth a call.
     pub fn awaits(&self) -> Awaits
         ensures { result ≡ awaits self.now }
@@ -53,9 +55,9 @@ impl<S, W> Underway<S, W> {
 }
 
 /// What came of a step of a visit.
-pub enum Step<S, W> {
+pub enum Step<'a, S, W> {
     /// The visit waits.
-    Waits(Underway<S, W>),
+    Waits(Underway<'a, S, W>),
     /// The visit is over. The answer is how many bytes the server sent, at most 2^64 - 1, or why that was not all.
     Done(Result<u64, VisitFault>),
 }

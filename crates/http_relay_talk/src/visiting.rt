@@ -1,5 +1,6 @@
 ghost use Rattle.std.specs.Prelude.{◌<◌, length};
 ghost use Rattle.http_relay_dial.specs.Dials.{Talk, talk_of};
+ghost use Rattle.http_relay_talk.specs.Lessons.{Taught};
 ghost use Rattle.http_relay_talk.specs.Openings.{HasLeftQueue, Passes, reads_left};
 ghost use Rattle.http_relay_talk.specs.Shares.{Share, records};
 ghost use Rattle.http_relay_talk.specs.Talks.{UsesPort, UsesDialer};
@@ -26,14 +27,16 @@ pub fn visit<R, P: Port<R>, K: Clock<R>, D: Dialer<R>, C: Wire>(
     port: &mut P,
     clock: &mut K,
     dialer: &mut D,
-    target: &Target,
+    target: &Target<'_>,
     request: &Outgoing<'_>,
     client: &mut C,
 ) -> Result<u64, VisitFault>
-    // A slot is got at most once, at this server, and where it was got it is given back.
-    ensures port { UsesPort P.server_of target.now (P.entries port.old) (P.entries port.new) (P.refusals port.old) (P.refusals port.new)
-        (K.told clock.old) (K.told clock.new) (K.pauses clock.old) (K.pauses clock.new) result }
-    ensures dialer { UsesDialer target.now request.now (D.dials dialer.old) (D.dials dialer.new) (D.talks dialer.old) (D.talks dialer.new)
+    // A slot is got at most once, at this server, and where it was got it is given back. Between the two a pin may be set, as the bytes
+    // teach it that were read of the server.
+    ensures { (taught : Taught) × UsesPort P.server_of target.now taught (P.entries port.old) (P.entries port.new)
+        (P.refusals port.old) (P.refusals port.new)
+        (K.told clock.old) (K.told clock.new) (K.pauses clock.old) (K.pauses clock.new) result
+        × UsesDialer target.now taught request.now (D.dials dialer.old) (D.dials dialer.new) (D.talks dialer.old) (D.talks dialer.new)
         (D.failures dialer.old) (D.failures dialer.new)
         (talk_of C.written C.reading C.faults client.old) (talk_of C.written C.reading C.faults client.new) result }
 {
@@ -51,21 +54,21 @@ pub fn visit<R, P: Port<R>, K: Clock<R>, D: Dialer<R>, C: Wire>(
 }
 
 /// Takes a visit out of the queue. It pauses wherever a pause is due.
-fn leave_queue<R, P: Port<R>, K: Clock<R>, D: Dialer<R>, C: Wire>(
+fn leave_queue<'a, R, P: Port<R>, K: Clock<R>, D: Dialer<R>, C: Wire>(
     rt: &R,
     port: &mut P,
     clock: &mut K,
     dialer: &mut D,
-    target: &Target,
+    target: &Target<'a>,
     request: &Outgoing<'_>,
     room: &mut [u8],
-    begun: Step<P::Slot, D::Connection>,
+    begun: Step<'a, P::Slot, D::Connection>,
     client: &mut C,
-) -> Step<P::Slot, D::Connection>
+) -> Step<'a, P::Slot, D::Connection>
     requires { 0 < length room.old }
     ensures passes { (own : Share) (before : Talk)
         → Stands P.server_of (talk_of D.Connection.written D.Connection.reading D.Connection.faults) target.now request.now own before
-        (talk_of C.written C.reading C.faults client.old) begun
+        (talk_of C.written C.reading C.faults client.old) begun.entry
         → Passes P.server_of (talk_of D.Connection.written D.Connection.reading D.Connection.faults) target.now request.now own before
         (talk_of C.written C.reading C.faults client.new)
         (records P.entries P.refusals D.dials D.talks D.failures port.old (K.told clock.old) dialer.old)
@@ -90,22 +93,22 @@ fn leave_queue<R, P: Port<R>, K: Clock<R>, D: Dialer<R>, C: Wire>(
 }
 
 /// Copies a response and ends the visit. The bytes go through this room until a read fills it, and then through a larger one.
-fn copy<R, P: Port<R>, K: Clock<R>, D: Dialer<R>, C: Wire>(
+fn copy<'a, R, P: Port<R>, K: Clock<R>, D: Dialer<R>, C: Wire>(
     rt: &R,
     port: &mut P,
     clock: &mut K,
     dialer: &mut D,
-    target: &Target,
+    target: &Target<'a>,
     request: &Outgoing<'_>,
     room: &mut [u8],
-    underway: Underway<P::Slot, D::Connection>,
+    underway: Underway<'a, P::Slot, D::Connection>,
     client: &mut C,
 ) -> Result<u64, VisitFault>
     requires room { 0 < length room.old }
     requires left { HasLeftQueue (Waits underway) }
     ensures { (own : Share) (before : Talk)
         → IsUnderway P.server_of (talk_of D.Connection.written D.Connection.reading D.Connection.faults) target.now request.now own before
-        (talk_of C.written C.reading C.faults client.old) underway
+        (talk_of C.written C.reading C.faults client.old) underway.entry
         → Passes P.server_of (talk_of D.Connection.written D.Connection.reading D.Connection.faults) target.now request.now own before
         (talk_of C.written C.reading C.faults client.new)
         (records P.entries P.refusals D.dials D.talks D.failures port.old (K.told clock.old) dialer.old)
@@ -124,29 +127,29 @@ fn copy<R, P: Port<R>, K: Clock<R>, D: Dialer<R>, C: Wire>(
 }
 
 /// Copies a response through this room, until the visit is over or a read fills the room.
-fn copy_through<R, P: Port<R>, K: Clock<R>, D: Dialer<R>, C: Wire>(
+fn copy_through<'a, R, P: Port<R>, K: Clock<R>, D: Dialer<R>, C: Wire>(
     rt: &R,
     port: &mut P,
     clock: &mut K,
     dialer: &mut D,
-    target: &Target,
+    target: &Target<'a>,
     request: &Outgoing<'_>,
     room: &mut [u8],
-    underway: Underway<P::Slot, D::Connection>,
+    underway: Underway<'a, P::Slot, D::Connection>,
     client: &mut C,
-) -> Step<P::Slot, D::Connection>
+) -> Step<'a, P::Slot, D::Connection>
     requires room { 0 < length room.old }
     requires left { HasLeftQueue (Waits underway) }
     ensures passes { (own : Share) (before : Talk)
         → IsUnderway P.server_of (talk_of D.Connection.written D.Connection.reading D.Connection.faults) target.now request.now own before
-        (talk_of C.written C.reading C.faults client.old) underway
+        (talk_of C.written C.reading C.faults client.old) underway.entry
         → Passes P.server_of (talk_of D.Connection.written D.Connection.reading D.Connection.faults) target.now request.now own before
         (talk_of C.written C.reading C.faults client.new)
         (records P.entries P.refusals D.dials D.talks D.failures port.old (K.told clock.old) dialer.old)
         (records P.entries P.refusals D.dials D.talks D.failures port.new (K.told clock.new) dialer.new)
         (K.pauses clock.old) (K.pauses clock.new) result }
     ensures left { HasLeftQueue result }
-    ensures fewer { reads_left D.Connection.reading result < reads_left D.Connection.reading (Waits underway) }
+    ensures fewer { reads_left D.Connection.reading result < reads_left D.Connection.reading (Waits underway.entry) }
 {
     let mut underway = underway;
     loop {
@@ -170,20 +173,20 @@ fn copy_through<R, P: Port<R>, K: Clock<R>, D: Dialer<R>, C: Wire>(
 /// Copies the rest of a response of which a read has filled the first room. The room is in a frame of its own, whose pages are touched
 /// when it is entered: a response that ends within the first room costs none of this memory.
 #[inline(never)]
-fn copy_rest<R, P: Port<R>, K: Clock<R>, D: Dialer<R>, C: Wire>(
+fn copy_rest<'a, R, P: Port<R>, K: Clock<R>, D: Dialer<R>, C: Wire>(
     rt: &R,
     port: &mut P,
     clock: &mut K,
     dialer: &mut D,
-    target: &Target,
+    target: &Target<'a>,
     request: &Outgoing<'_>,
-    underway: Underway<P::Slot, D::Connection>,
+    underway: Underway<'a, P::Slot, D::Connection>,
     client: &mut C,
 ) -> Result<u64, VisitFault>
     requires { HasLeftQueue (Waits underway) }
     ensures { (own : Share) (before : Talk)
         → IsUnderway P.server_of (talk_of D.Connection.written D.Connection.reading D.Connection.faults) target.now request.now own before
-        (talk_of C.written C.reading C.faults client.old) underway
+        (talk_of C.written C.reading C.faults client.old) underway.entry
         → Passes P.server_of (talk_of D.Connection.written D.Connection.reading D.Connection.faults) target.now request.now own before
         (talk_of C.written C.reading C.faults client.new)
         (records P.entries P.refusals D.dials D.talks D.failures port.old (K.told clock.old) dialer.old)

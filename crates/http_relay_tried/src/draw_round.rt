@@ -10,7 +10,7 @@ use crate::round::{Desk, Round};
 use crate::site::{Place, Site};
 use http_relay_dial::{Endpoint, Limits};
 use http_relay_head::HEAD_ROOM;
-use http_relay_talk::Target;
+use http_relay_talk::Way;
 use http_relay_wire::WireFault;
 use lb_acl::{KeyLen, KeySample, StickOn, TableType, Text};
 use lb_desk_model::ServedAs;
@@ -199,7 +199,7 @@ fn draw_place(alloc: Global, dice: &mut Dice, port: u16) -> Result<Place, AllocE
     let number = dice.byte() % 128;
     Ok(Place {
         takes: !dice.is_one_in(20),
-        target: Target {
+        target: Way {
             server: ServerId::new(number),
             endpoint: Endpoint {
                 address: Ipv4Addr::new(127, 0, 0, 1),

@@ -5,7 +5,7 @@ ghost use Rattle.lb_acl.specs.Keys.{IsKeyOf};
 ghost use Rattle.http_relay_tried.specs.Sites.{backend_for};
 
 use http_relay_serve::Routing;
-use http_relay_talk::Target;
+use http_relay_talk::{Lesson, Way};
 use lb_acl::{Head, StickOn, Version, pin_key};
 use lb_desk_model::{Request, RuleList};
 use lb_types::{Moment, ServerId};
@@ -20,7 +20,7 @@ pub(crate) struct Place {
     /// It takes heads.
     pub(crate) takes: bool,
     /// How its server is reached.
-    pub(crate) target: Target,
+    pub(crate) target: Way,
     pub(crate) forwards_address: bool,
     pub(crate) pattern: StickOn,
 }
@@ -40,7 +40,7 @@ impl Place {
     }
 
     /// How the server of this number is reached.
-    fn target_of(&self, server: ServerId) -> Option<Target>
+    fn target_of(&self, server: ServerId) -> Option<Way>
         ensures { result ≡ (if server == self.now.target.server then Some self.now.target else None) }
     {
         if server == self.target.server {
@@ -81,6 +81,7 @@ impl Routing for Site {
       target = λ backend server. if backend == 0
           then (if server == site.first.target.server then Some site.first.target else None)
           else (if server == site.second.target.server then Some site.second.target else None);
+      lesson = λ backend request. None;
     } };
 
     fn backend(&self, head: &Head<'_>) -> Option<usize> {
@@ -112,11 +113,15 @@ impl Routing for Site {
         }
     }
 
-    fn target(&self, backend: usize, server: ServerId) -> Option<Target> {
+    fn target(&self, backend: usize, server: ServerId) -> Option<Way> {
         if backend == 0 {
             self.first.target_of(server)
         } else {
             self.second.target_of(server)
         }
+    }
+
+    fn lesson(&self, _alloc: Global, _backend: usize, _request: &Request) -> Option<Lesson<'_>> {
+        None
     }
 }

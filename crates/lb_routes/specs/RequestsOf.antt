@@ -1,6 +1,6 @@
 -- What a configuration says of requests: HAProxy Configuration Manual 2.8, section 4.2 (`use_backend` and `default_backend`, `stick on`
 -- and `stick-table`, `use-server`, `option forwardfor`, `server`, `timeout`). `pin-cost` and limits of 0 are our own.
-use Rattle.std.specs.Prelude.{◌≡◌, ℕ, ◌||◌, false, List, Option, Some, None, IfSome, slice_get}
+use Rattle.std.specs.Prelude.{◌≡◌, ℕ, ◌||◌, false, List, Option, Some, None, IfSome, if◌then◌else◌, slice_get}
 use Rattle.std.specs.Option.{option_and_then, option_map, option_map_or}
 use Rattle.pin_set.specs.declared.pin_key.PinKey.{PinKey}
 use Rattle.lb_acl.specs.declared.key.StickOn.{StickOn}
@@ -15,9 +15,12 @@ use Rattle.lb_config.specs.ConfigViews.{BackendView, ConfigView}
 use Rattle.lb_config.specs.Fronts.{backend_of}
 use Rattle.lb_config.specs.Limits.{limit_of, queue_limit}
 use Rattle.lb_desk_model.specs.declared.event.Request.{Request}
+use Rattle.lb_desk_model.specs.Serves.{want_of}
 use Rattle.http_relay_dial.specs.declared.endpoint.Endpoint.{Endpoint}
 use Rattle.http_relay_dial.specs.declared.endpoint.Limits.{Limits}
-use Rattle.http_relay_talk.specs.declared.target.Target.{Target}
+use Rattle.http_relay_talk.specs.Lessons.{LessonView}
+use Rattle.http_relay_talk.specs.declared.target.Way.{Way}
+use Rattle.set_cookie.specs.TaughtKeys.{learns}
 use Rattle.http_relay_serve.specs.Routes.{Routes}
 use Rattle.lb_routes.specs.FrontendRoutesView.{FrontendRoutesView}
 
@@ -50,7 +53,7 @@ abbrev pub limits_of : Timeouts → Limits
 limits_of times = record { connect = limit_of times.connect; transfer = limit_of times.server }
 
 -- how a server of the backend is reached
-abbrev pub target_of : BackendView → ℕ → ServerView → Target
+abbrev pub target_of : BackendView → ℕ → ServerView → Way
 target_of backend number server = record {
   server = number;
   endpoint = endpoint_of server.endpoint;
@@ -59,12 +62,26 @@ target_of backend number server = record {
 }
 
 -- how the server of this number is reached, if the backend has it
-abbrev pub target_in : ℕ → BackendView → Option Target
+abbrev pub target_in : ℕ → BackendView → Option Way
 target_in number backend = option_map (target_of backend number) (slice_get backend.servers number)
 
 -- how the server of this number is reached of the backend at this place, if there is one
-abbrev pub target_at : List BackendView → ℕ → ℕ → Option Target
+abbrev pub target_at : List BackendView → ℕ → ℕ → Option Way
 target_at backends place number = option_and_then (target_in number) (slice_get backends place)
+
+-- ---- what an answer teaches
+
+-- The answer to the request may teach where the session of a cookie is, with the servers that the request wants, its cost and its moment. Of
+-- other keys nothing is learned
+abbrev pub lesson_of : Request → StickOn → Option LessonView
+lesson_of request pattern =
+    if learns pattern.sample
+    then Some (record { pattern = pattern; want = want_of request; cost = request.cost; moment = request.moment })
+    else None
+
+-- what the answer to the request may teach the backend at this place
+abbrev pub lesson_at : List BackendView → ℕ → Request → Option LessonView
+lesson_at backends place request = option_and_then (lesson_of request) (option_and_then (λ asked. asked.rules.stick_on) (slice_get backends place))
 
 -- ---- the whole
 
@@ -75,6 +92,7 @@ routes_of routes = record {
   asks = AsksAt routes.backends;
   forwards_address = λ backend. routes.frontend.forward_for || option_map_or (λ asked. asked.forward_for) (slice_get routes.backends backend) false;
   target = target_at routes.backends;
+  lesson = lesson_at routes.backends;
 }
 
 -- what the configuration has at its frontend of this place, if it has that

@@ -2,10 +2,11 @@ ghost use Rattle.std.specs.Prelude.{◌≡◌, length};
 ghost use Rattle.lb_config.specs.Limits.{limit_of};
 ghost use Rattle.lb_routes.specs.RequestsOf.{routes_at, routes_of};
 
+use crate::lessons::lesson_at;
 use crate::requests::request_of;
 use crate::targets::target_at;
 use http_relay_serve::Routing;
-use http_relay_talk::Target;
+use http_relay_talk::{Lesson, Way};
 use lb_acl::Head;
 use lb_config::{BackendConfig, Config, Frontend};
 use lb_desk_model::Request;
@@ -80,7 +81,11 @@ impl Routing for ConfigRoutes<'_> {
         self.frontend.forward_for() || self.backends[backend].forward_for()
     }
 
-    fn target(&self, backend: usize, server: ServerId) -> Option<Target> {
+    fn target(&self, backend: usize, server: ServerId) -> Option<Way> {
         target_at(self.backends, backend, server)
+    }
+
+    fn lesson(&self, alloc: Global, backend: usize, request: &Request) -> Option<Lesson<'_>> {
+        lesson_at(alloc, self.backends, backend, request)
     }
 }

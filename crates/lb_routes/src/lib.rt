@@ -6,6 +6,7 @@
 #![tactic(auto)]
 
 mod config_routes;
+mod lessons;
 mod requests;
 mod targets;
 

@@ -2,18 +2,14 @@ ghost use Rattle.std.specs.Prelude.{◌≡◌};
 ghost use Rattle.lb_routes.specs.RequestsOf.{endpoint_of, target_at, target_of};
 
 use http_relay_dial::{Endpoint, Limits};
-use http_relay_talk::Target;
+use http_relay_talk::Way;
 use lb_config::BackendConfig;
 use lb_config_arguments::Endpoint as ConfiguredEndpoint;
 use lb_config_values::ServerConfig;
 use lb_types::ServerId;
 
 /// How the server of this number of the backend at this place is reached, if there is one.
-pub(crate) fn target_at(
-    backends: &[BackendConfig],
-    place: usize,
-    number: ServerId,
-) -> Option<Target>
+pub(crate) fn target_at(backends: &[BackendConfig], place: usize, number: ServerId) -> Option<Way>
     ensures { result ≡ target_at backends.now place number }
 {
     let backend = backends.get(place)?;
@@ -21,10 +17,10 @@ pub(crate) fn target_at(
     Some(target_of(backend, number, server))
 }
 
-fn target_of(backend: &BackendConfig, number: ServerId, server: &ServerConfig) -> Target
+fn target_of(backend: &BackendConfig, number: ServerId, server: &ServerConfig) -> Way
     ensures { result ≡ target_of backend.now number server.now }
 {
-    Target {
+    Way {
         server: number,
         endpoint: endpoint_of(server.endpoint()),
         limits: Limits {

@@ -25,8 +25,8 @@ returns-in-Ok-answer g c =
     visits g.P.Port.server_of routes c.args.backend c.args.read.now (port c.args.port.now) (port c.prepare.new.port) (port c.visit-answer.new.port)
     (clock c.prepare.new.clock) (scene (clock c.args.worker.now.clock) (dialer c.args.worker.now.dialer) (talk c.args.client.now))
     (scene (clock c.visit-answer.new.clock) (dialer c.visit-answer.new.dialer) (talk c.visit-answer.new.client))
-    c.in-Ok.prepared.target c.outgoing-outgoing.result (Ok c.in-Ok-answer.count) x.0
-    (c.outgoing-outgoing.ensures ∙ ap (sends c.in-Ok.prepared) c.rest.ensures ∙ x.1) c.in-Ok-answer.ensures.port c.in-Ok-answer.ensures.dialer
+    c.in-Ok.prepared.target c.in-Ok-answer.ensures.0 c.outgoing-outgoing.result (Ok c.in-Ok-answer.count) x.0
+    (c.outgoing-outgoing.ensures ∙ ap (sends c.in-Ok.prepared) c.rest.ensures ∙ x.1) c.in-Ok-answer.ensures.1 c.in-Ok-answer.ensures.2
 
 pub returns : goal.returns
 returns g c =
@@ -39,5 +39,5 @@ returns g c =
     visits g.P.Port.server_of routes c.args.backend c.args.read.now (port c.args.port.now) (port c.prepare.new.port) (port c.visit-answer.new.port)
     (clock c.prepare.new.clock) (scene (clock c.args.worker.now.clock) (dialer c.args.worker.now.dialer) (talk c.args.client.now))
     (scene (clock c.visit-answer.new.clock) (dialer c.visit-answer.new.dialer) (talk c.visit-answer.new.client))
-    c.in-Ok.prepared.target c.outgoing-outgoing.result (Err c.in-Err-answer.fault) x.0
-    (c.outgoing-outgoing.ensures ∙ ap (sends c.in-Ok.prepared) c.rest.ensures ∙ x.1) c.in-Err-answer.ensures.port c.in-Err-answer.ensures.dialer
+    c.in-Ok.prepared.target c.in-Err-answer.ensures.0 c.outgoing-outgoing.result (Err c.in-Err-answer.fault) x.0
+    (c.outgoing-outgoing.ensures ∙ ap (sends c.in-Ok.prepared) c.rest.ensures ∙ x.1) c.in-Err-answer.ensures.1 c.in-Err-answer.ensures.2

@@ -1,7 +1,6 @@
 use Rattle.std.proofs.Common.{◌≡◌, ◌++◌, ◌∷◌, [], List, ℕ, append-nil, refl, sym, subst, ap, ◌∙◌}
 use Rattle.http_relay_dial.specs.Dials.{talk_of}
-use Rattle.http_relay_talk.specs.Openings.{refusals_of}
-use Rattle.http_relay_talk.specs.Shares.{records, joined}
+use Rattle.http_relay_talk.specs.Shares.{records, joined, refusals_of}
 use Rattle.http_relay_talk.specs.Visits.{IsUnderway, Nears, Stands, Steps, due}
 use Rattle.http_relay_talk.proofs.Passing.{asks_nearer}
 use Rattle.http_relay_talk.proofs.Shares.{adds_twice, joined_thrice}

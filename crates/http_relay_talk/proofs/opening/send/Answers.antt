@@ -23,7 +23,7 @@ returns-in-Ok-clause-steps g c own told h =
       },
       refl,
       was_sent g.P.Port.server_of target c.args.request.now own (client c.args.client.now) (client c.dial_and_send.new.client) c.args.slot
-          (seen c.in-Ok.connection) x.0 h x.1 x.3,
+          (seen c.in-Ok.connection) x.0 c.new.result h x.1 x.3 c.new.ensures,
     )
 
 pub returns-in-Err-clause-steps : goal.returns-in-Err-clause-steps

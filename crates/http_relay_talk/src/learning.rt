@@ -1,0 +1,109 @@
+ghost use Rattle.std.specs.Prelude.{◌≡◌, ◌++◌, [], ℕ, List, Option, Some};
+ghost use Rattle.http_relay_talk.specs.Learnings.{LearnsMore, TeachesMore};
+ghost use Rattle.http_relay_talk.specs.Lessons.{LessonView, Learns, Makes, Taught, untaught};
+ghost use Rattle.http_relay_talk.specs.Visits.{IsLearning};
+
+use crate::{Lesson, Target};
+use lb_desk_ports::Port;
+use lb_types::ServerId;
+use set_cookie::{MOST_BYTES, is_unfinished};
+
+/// How far a visit has learned from its server's answer.
+#[derive(Debug, Drop)]
+pub enum Learning<'a> {
+    /// Nothing is learned any more.
+    Over,
+    /// The answer may still teach something.
+    Goes(Front<'a>),
+}
+
+/// The beginning of an answer that may still teach something.
+#[derive(Debug, Drop)]
+pub struct Front<'a> {
+    pub lesson: Lesson<'a>,
+    /// The server that answers.
+    pub server: ServerId,
+    /// What was read of the answer, at most 16,384 bytes.
+    pub bytes: Vec<u8>,
+}
+
+impl<'a> Learning<'a> {
+    /// Nothing of the target's answer was read yet.
+    pub(crate) fn new(target: &Target<'a>) -> Self
+        ensures { IsLearning target.now.lesson target.now.server [] result untaught }
+    {
+        match &target.lesson {
+            Some(lesson) => Learning::Goes(Front {
+                lesson: lesson.copied(),
+                server: target.server,
+                bytes: Vec::new(lesson.alloc()),
+            }),
+            None => Learning::Over,
+        }
+    }
+
+    /// Learns from a piece of the answer, which hasn't gone out yet.
+    pub(crate) fn learn<R, P: Port<R>>(self, rt: &R, port: &mut P, piece: &[u8]) -> Self
+        ensures { (lesson : Option LessonView) (server : ℕ) (answer : List ℕ) (taught : Taught)
+            → IsLearning lesson server answer self.entry taught
+            → LearnsMore lesson server answer piece.now taught (P.entries port.old) (P.entries port.new)
+            (P.refusals port.old) (P.refusals port.new) result }
+    {
+        match self {
+            Learning::Over => Learning::Over,
+            Learning::Goes(front) => front.learn(rt, port, piece),
+        }
+    }
+}
+
+impl<'a> Front<'a> {
+    // As `Learning::learn`. Most heads come in one piece, of which nothing has to be kept.
+    fn learn<R, P: Port<R>>(self, rt: &R, port: &mut P, piece: &[u8]) -> Learning<'a>
+        ensures { TeachesMore self.entry piece.now (P.entries port.old) (P.entries port.new)
+            (P.refusals port.old) (P.refusals port.new) result }
+    {
+        if self.bytes.is_empty() && !is_unfinished(piece) {
+            teach(rt, port, &self.lesson, self.server, piece);
+            return Learning::Over;
+        }
+        self.keep(rt, port, piece)
+    }
+
+    // As `Learning::learn`, for a head that doesn't come in one piece.
+    fn keep<R, P: Port<R>>(self, rt: &R, port: &mut P, piece: &[u8]) -> Learning<'a>
+        ensures { TeachesMore self.entry piece.now (P.entries port.old) (P.entries port.new)
+            (P.refusals port.old) (P.refusals port.new) result }
+    {
+        let Front {
+            lesson,
+            server,
+            bytes,
+        } = self;
+        let mut bytes = bytes;
+        let left = MOST_BYTES.saturating_sub(bytes.len());
+        let (first, rest) = piece.split_at(piece.len().min(left));
+        match bytes.extend_from_slice(first) {
+            Ok(()) => {}
+            Err(_) => return Learning::Over,
+        }
+        if rest.is_empty() && is_unfinished(&bytes) {
+            return Learning::Goes(Front {
+                lesson,
+                server,
+                bytes,
+            });
+        }
+        teach(rt, port, &lesson, server, &bytes);
+        Learning::Over
+    }
+}
+
+/// Sets the pin that this answer of the server teaches, if it teaches one and there is memory for its key. A refusal changes nothing.
+fn teach<R, P: Port<R>>(rt: &R, port: &mut P, lesson: &Lesson<'_>, server: ServerId, answer: &[u8])
+    ensures { (taught : Taught) × Makes taught (P.entries port.old) (P.entries port.new) (P.refusals port.old) (P.refusals port.new)
+        × Learns (Some lesson.now) server answer.now taught }
+{
+    if let Ok(Some(pin)) = lesson.pin(server, answer) {
+        let _pinning = port.set(rt, pin);
+    }
+}
