@@ -1,6 +1,6 @@
 -- A piece of a response: read, learned from, and written.
-use Rattle.std.proofs.Common.{◌≡◌, ℕ, ◌+◌, ◌-◌, ◌^◌, ◌<◌, ◌≤◌, min, true, List, [], ◌++◌, append-nil, length, Option, Result, Ok, Err, OnOk, refl, sym, subst, ap, ◌∙◌, arith}
-use Rattle.std.specs.Io.KnownBytes.{IsAtEnd, append_known, prepend_known}
+use Rattle.std.proofs.Common.{◌≡◌, ℕ, ◌^◌, ◌<◌, true, List, [], ◌++◌, Result, Ok, Err, OnOk, refl, sym, arith}
+use Rattle.std.specs.Io.KnownBytes.{IsAtEnd, prepend_known}
 use Rattle.http_relay_body.proofs.Moves.{append_nothing}
 use Rattle.http_relay_body.specs.Copies.{WentOut, server_faults, client_faults}
 use Rattle.http_relay_body.specs.Copying.{IsOfClient, IsOfServer, TellsOn}

@@ -1,5 +1,5 @@
 -- A piece more of an answer, and what is learned of it. No public clause cites this module.
-use Rattle.std.specs.Prelude.{◌≡◌, ℕ, List, ◌++◌, Option, Some}
+use Rattle.std.specs.Prelude.{ℕ, List, ◌++◌, Option, Some}
 use Rattle.lb_desk_model.specs.declared.entry.Entry.{Entry}
 use Rattle.http_relay_talk.specs.Lessons.{LessonView, Makes, Taught, both}
 use Rattle.http_relay_talk.specs.Visits.{IsLearning}
