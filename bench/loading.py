@@ -127,12 +127,13 @@ def resident(process: int) -> float:
     return kilobytes / 1024
 
 
-def origins(folder: Path, cores: str, late: int = 0) -> subprocess.Popen[bytes]:
-    """Two servers that answer at once, or so many milliseconds late, by `origin.c`, which is built in this folder."""
+def origins(folder: Path, cores: str, late: int = 0, cookies: bool = False) -> subprocess.Popen[bytes]:
+    """Two servers that answer at once, or so many milliseconds late, by `origin.c`, which is built in this folder. With `cookies` each answer
+    sets one."""
     program = str(folder / "origin")
     subprocess.run(["gcc", "-O2", "-Wall", "-pthread", "-o", program, str(BENCH / "origin.c")], check=True)
     own = parted(cores)[1]
-    running = started([program, "-w", str(late), str(len(own.split(","))), *map(str, ORIGINS)], own)
+    running = started([program, "-w", str(late), *(["-c"] if cookies else []), str(len(own.split(","))), *map(str, ORIGINS)], own)
     for port in ORIGINS:
         wait_for(port)
     return running

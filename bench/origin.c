@@ -3,10 +3,11 @@
  *
  *     origin THREADS PORT..
  *     origin -w MILLIS THREADS PORT..
+ *     origin -c THREADS PORT..
  *
  * It listens at each port of 127.0.0.1, in so many threads. The system hands on a connection when its request is there
  * (TCP_DEFER_ACCEPT), and it is answered and closed at once: four calls a request. With -w it is answered so many milliseconds later, and
- * others are taken meanwhile. It reads one piece, so requests have no body.
+ * others are taken meanwhile. With -c each answer sets the cookie sid, to a value of its own. It reads one piece, so requests have no body.
  */
 #define _GNU_SOURCE
 #include <arpa/inet.h>
@@ -43,9 +44,19 @@ static int listener(int port) {
     return listening;
 }
 
+/* Answers set a cookie. */
+static int cookies;
+
 static void answer(int connection) {
-    char request[16384];
-    if (read(connection, request, sizeof request) > 0 && write(connection, ANSWER, sizeof ANSWER - 1) < 0) perror("write");
+    static __thread unsigned number;
+    char request[16384], text[256];
+    const char *given = ANSWER;
+    int size = sizeof ANSWER - 1;
+    if (cookies) {
+        size = snprintf(text, sizeof text, "HTTP/1.1 200 OK\r\nContent-Length: 10\r\nSet-Cookie: sid=k%08x; Path=/\r\nConnection: close\r\n\r\nthis is a\n", number++ % 50000);
+        given = text;
+    }
+    if (read(connection, request, sizeof request) > 0 && write(connection, given, size) < 0) perror("write");
     close(connection);
 }
 
@@ -109,8 +120,12 @@ int main(int count, char **words) {
         late = atol(words[2]);
         words += 2, count -= 2;
     }
+    if (count > 1 && !strcmp(words[1], "-c")) {
+        cookies = 1;
+        words += 1, count -= 1;
+    }
     if (count < 3) {
-        fputs("origin [-w MILLIS] THREADS PORT..\n", stderr);
+        fputs("origin [-w MILLIS] [-c] THREADS PORT..\n", stderr);
         return 2;
     }
     int *ports = calloc(count - 1, sizeof *ports);

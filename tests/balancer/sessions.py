@@ -2,12 +2,13 @@
 
 from __future__ import annotations
 
+import itertools
 import re
-from collections.abc import Callable
+from collections.abc import Callable, Iterator
 from dataclasses import dataclass, field
 
-from .cases import case, expect, expect_equal
-from .clients import get
+from .cases import case, expect, expect_equal, wait_until
+from .clients import at_once, get
 from .farms import Balancer, Farm, ends_well, listen, server
 from .origins import Handler, Origin, Talk, response, sends
 
@@ -27,7 +28,7 @@ class Sessions:
     cookie: str
     form: str
     known: set[str] = field(default_factory=set)
-    renewed: bool = False
+    numbers: Iterator[int] = field(default_factory=itertools.count)
 
     def __call__(self, talk: Talk) -> None:
         if not talk.read_request():
@@ -37,7 +38,7 @@ class Sessions:
         if session in self.known and b"GET /login " not in talk.received:
             talk.send(response(f"{self.name} {session}".encode()))
         else:
-            session = f"{self.name}{len(self.known)}"
+            session = f"{self.name}{next(self.numbers)}"
             self.known.add(session)
             talk.send(with_fields(f"{self.name} {session}".encode(), self.form.format(session)))
         talk.end()
@@ -155,6 +156,32 @@ def other_keys_learn_nothing(farm: Farm) -> None:
             Jar(port).get()
             expect_equal(f"{pattern}: no pin is set", set_events(balancer), [])
             ends_well(balancer)
+
+
+def visit_all(jars: list[Jar]) -> list[str]:
+    """The bodies that these visitors get, who come in 16 lines."""
+    lines = [jars[first::16] for first in range(16)]
+    bodies = at_once(lambda line: [jar.get() for jar in line], lines)
+    return [bodies[place % 16][place // 16] for place in range(len(jars))]
+
+
+@case
+def ten_thousand_visitors_keep_their_sessions_through_a_drain(farm: Farm) -> None:
+    port = farm.port()
+    servers = [server(name, farm.origin(Sessions(name, "sid", FORMS[2][2])), "maxpins 20000") for name in ("s1", "s2", "s3")]
+    lines = ("balance roundrobin", "stick-table type string len 32 size 20k", "stick on req.cook(sid)", "option evacuate")
+    balancer = farm.start(listen(port, *lines, *servers), ("tune.relays 16",))
+    jars = [Jar(port) for _ in range(10_000)]
+    first = visit_all(jars)
+    of_first = [place for place, body in enumerate(first) if body.startswith("s1 ")]
+    expect("a third begins at each server", 3_300 < len(of_first) < 3_400)
+    expect_equal("the drain", balancer.tell("set server web/s1 state drain"), "\n")
+    wait_until("no pin is left there", lambda: " server=s1 " not in balancer.tell("show table web"))
+    second = visit_all(jars)
+    expect_equal("all others stay", [it for it in range(10_000) if second[it] != first[it]], of_first)
+    expect("the drained server gets no one", not any(it.startswith("s1 ") for it in second))
+    expect_equal("a new session stays too", visit_all([jars[it] for it in of_first]), [second[it] for it in of_first])
+    ends_well(balancer, whole=False)
 
 
 # What comes after the status line of an answer, and the key of the pin that it teaches, or none.

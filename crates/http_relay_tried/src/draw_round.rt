@@ -5,6 +5,7 @@ use crate::byte_wire::Peer;
 use crate::dice::Dice;
 use crate::draw_body::{draw_bytes, draw_parts};
 use crate::draw_head::{Framing, draw_framing, draw_head, stretch};
+use crate::draw_response::draw_response;
 use crate::head::{Head, HeadText, Word};
 use crate::round::{Desk, Round};
 use crate::site::{Place, Site};
@@ -13,8 +14,8 @@ use http_relay_head::HEAD_ROOM;
 use http_relay_talk::Way;
 use http_relay_wire::WireFault;
 use lb_acl::{KeyLen, KeySample, StickOn, TableType, Text};
-use lb_desk_model::ServedAs;
-use lb_desk_ports::{Asked, Refused, ScriptedOpening};
+use lb_desk_model::{PinnedAs, ServedAs};
+use lb_desk_ports::{Asked, Pinning, Refused, ScriptedOpening};
 use lb_types::ServerId;
 use std::alloc::{AllocError, Global};
 use std::net::Ipv4Addr;
@@ -33,8 +34,8 @@ pub(crate) fn draw_round(alloc: Global, number: u64) -> Result<Round, AllocError
     let sizes = Sizes {
         head: size,
         behind: sent.input.len().saturating_sub(size),
-        response: response.len(),
-        is_long: sent.input.len() > 2000 || response.len() > 2000,
+        response: response.bytes.len(),
+        is_long: sent.input.len() > 2000 || response.bytes.len() > 2000,
     };
     let start = dice.roll(100_000) as u64;
     let client = draw_client(dice, sizes);
@@ -155,24 +156,6 @@ fn add_body(
     input.extend_from_slice(more.as_bytes())
 }
 
-/// What a server sends, which nobody reads but the client.
-fn draw_response(alloc: Global, dice: &mut Dice) -> Result<Vec<u8>, AllocError> {
-    let heads = [
-        "HTTP/1.1 200 OK\r\n\r\n",
-        "HTTP/1.1 100 Continue\r\n\r\nHTTP/1.0 204 No\r\n\r\n",
-        "no response",
-        "",
-    ];
-    let mut response = Vec::from_slice(alloc, dice.word(&heads).as_bytes())?;
-    let count = if dice.is_one_in(300) {
-        dice.number(&[65536, 65537, 70000])
-    } else {
-        dice.roll(50)
-    };
-    response.extend_from_slice(&draw_bytes(alloc, dice, count)?)?;
-    Ok(response)
-}
-
 fn draw_source(dice: &mut Dice) -> (Word, Ipv4Addr) {
     let (text, address) = match dice.roll(3) {
         0 => ("10.0.0.7", (10, 0, 0, 7)),
@@ -213,6 +196,7 @@ fn draw_place(alloc: Global, dice: &mut Dice, port: u16) -> Result<Place, AllocE
         },
         forwards_address: dice.is_one_in(2),
         pattern: draw_pattern(alloc, dice)?,
+        learns: !dice.is_one_in(10),
     })
 }
 
@@ -255,12 +239,13 @@ fn draw_desk(alloc: Global, dice: &mut Dice, server: ServerId) -> Result<Desk, A
         Refused::Worn
     };
     let refusing = if dice.is_one_in(15) {
-        Some((dice.roll(6) as u64, refused))
+        Some((dice.roll(8) as u64, refused))
     } else {
         None
     };
     Ok(Desk {
         asked,
+        pinning: draw_pinning(dice),
         openings,
         refusing,
     })
@@ -276,6 +261,17 @@ fn draw_asked(dice: &mut Dice, server: ServerId) -> Asked {
         20..30 => Asked::Served(server, ServedAs::Loose),
         30..35 => Asked::Served(server, ServedAs::Moved),
         _ => Asked::Served(server, ServedAs::Made),
+    }
+}
+
+fn draw_pinning(dice: &mut Dice) -> Pinning {
+    match dice.roll(6) {
+        0 => Pinning::NoTable,
+        1 => Pinning::NoSuchServer,
+        2 => Pinning::TableFull,
+        3 => Pinning::Pinned(PinnedAs::Kept),
+        4 => Pinning::Pinned(PinnedAs::Moved),
+        _ => Pinning::Pinned(PinnedAs::Made),
     }
 }
 

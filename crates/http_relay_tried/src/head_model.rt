@@ -180,13 +180,22 @@ pub(crate) fn key_of(
         KeySample::Field(_) => last_key(&round.head, Name::Id),
         KeySample::Cookie(_) => last_key(&round.head, Name::Cookie),
     };
+    key_by(alloc, place.pattern.table, found)
+}
+
+/// The key that a table makes of this word.
+pub(crate) fn key_by(
+    alloc: Global,
+    table: TableType,
+    found: Option<Word>,
+) -> Result<Option<PinKey>, AllocError> {
     let Some(word) = found else {
         return Ok(None);
     };
     if word.text.is_empty() {
         return Ok(None);
     }
-    match place.pattern.table {
+    match table {
         TableType::Ip => Ok(
             word.address
                 .map(|(a, b, c, d)| PinKey::Ipv4(Ipv4Addr::new(a, b, c, d))),

@@ -5,7 +5,7 @@ use crate::owed::Owed;
 use crate::round::Round;
 use crate::serving::Served;
 use http_relay_serve::{Cause, DropCause, Outcome};
-use lb_desk_model::Event;
+use lb_desk_model::{Entry, Event, Reply};
 use std::alloc::{AllocError, Global};
 
 /// The kinds of ends, by their numbers. Out of memory isn't among them: nothing makes memory short here.
@@ -54,13 +54,16 @@ const SIGHTS: &[&str] = &[
     "a slot whose end was refused",
     "a bad chunk behind a part of the body that went out",
     "more than one way that it may end",
+    "a pin that an answer taught",
+    "a pin that an answer in several pieces taught",
+    "a pin that was taught and refused",
 ];
 
 /// How often each was met.
 #[derive(Drop)]
 pub(crate) struct Kinds {
     ends: [u64; 28],
-    sights: [u64; 12],
+    sights: [u64; 15],
 }
 
 impl Kinds {
@@ -68,7 +71,7 @@ impl Kinds {
     pub(crate) fn none() -> Self {
         Kinds {
             ends: [0; 28],
-            sights: [0; 12],
+            sights: [0; 15],
         }
     }
 
@@ -167,7 +170,7 @@ fn number_of_cause(cause: Cause) -> usize {
 }
 
 /// Which of `SIGHTS` were met.
-fn sights(round: &Round, owed: &Owed, served: &Served<'_>) -> [bool; 12] {
+fn sights(round: &Round, owed: &Owed, served: &Served<'_>) -> [bool; 15] {
     let kind = kind_of(&round.head);
     let waits = waits(&round.head, kind) && owed.is_connected;
     let is_relayed = served.outcome == Outcome::Relayed;
@@ -191,9 +194,34 @@ fn sights(round: &Round, owed: &Owed, served: &Served<'_>) -> [bool; 12] {
         is_relayed && !has_key,
         is_relayed && got < owed.request.len(),
         waits && matches!(served.outcome, Outcome::Answered(_)),
-        was_untaken && !round.response.is_empty(),
+        was_untaken && !round.response.bytes.is_empty(),
         owed.is_connected && owed.refusals > 0,
         is_bad_chunk && got > head,
         owed.ways.len() > 1,
+        was_set(owed),
+        was_set(owed) && comes_in_pieces(round),
+        owed.entries.iter().any(is_refused_set),
     ]
+}
+
+/// Whether a pin was to be set.
+fn was_set(owed: &Owed) -> bool {
+    owed.entries
+        .iter()
+        .any(|entry| matches!(&entry.event, Event::Set(_)))
+}
+
+fn is_refused_set(entry: &Entry) -> bool {
+    matches!(
+        (&entry.event, &entry.reply),
+        (Event::Set(_), Reply::Refused(_))
+    )
+}
+
+/// Whether the server's head comes in more than one piece.
+fn comes_in_pieces(round: &Round) -> bool {
+    match round.dial {
+        Ok(server) => round.response.before_last_piece(server) > 0,
+        Err(_) => false,
+    }
 }

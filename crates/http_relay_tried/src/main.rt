@@ -11,6 +11,7 @@ mod byte_wire;
 mod dice;
 mod draw_body;
 mod draw_head;
+mod draw_response;
 mod draw_round;
 mod head;
 mod head_model;

@@ -6,16 +6,17 @@
 use crate::body::{Reach, reach_of};
 use crate::byte_wire::{Peer, back, front};
 use crate::head::add_words;
-use crate::head_model::{Kind, add_forwarded, head_ends, key_of, kind_of, waits};
+use crate::head_model::{Kind, add_forwarded, head_ends, key_by, key_of, kind_of, waits};
 use crate::owed::{End, Owed, Way};
 use crate::round::Round;
 use crate::site::{COST, Place};
 use http_relay_serve::{Cause, DropCause, Outcome};
 use http_relay_wire::WireFault;
-use lb_acl::Version;
-use lb_desk_model::{Entry, Event, Refusal, Reply, Request, RuleList};
-use lb_desk_ports::{Asked, Refused, ScriptedOpening};
-use lb_types::Moment;
+use lb_acl::{KeySample, Version};
+use lb_desk_model::{Entry, Event, Refusal, Reply, Request, RuleList, SetPin};
+use lb_desk_ports::{Asked, Pinning, Refused, ScriptedOpening};
+use lb_types::{Moment, ServerSet};
+use pin_set::PinId;
 use std::alloc::{AllocError, Global};
 
 const CONTINUE: &[u8] = b"HTTP/1.1 100 Continue\r\n\r\n";
@@ -202,6 +203,9 @@ fn exchange(
         )?;
     }
     if let Some(body) = passed {
+        if body.due.is_none() {
+            learn(alloc, round, place, server, invited, owed)?;
+        }
         add_way(
             alloc,
             round,
@@ -210,6 +214,54 @@ fn exchange(
         )?;
     }
     Ok(())
+}
+
+/// Adds the pin that the response teaches. It comes with the piece that ends the head, if the client has taken all pieces before.
+fn learn(
+    alloc: Global,
+    round: &Round,
+    place: &Place,
+    server: Peer,
+    invited: bool,
+    owed: &mut Owed,
+) -> Result<(), AllocError> {
+    let (KeySample::Cookie(_), true) = (&place.pattern.sample, place.learns) else {
+        return Ok(());
+    };
+    let Some(key) = key_by(alloc, place.pattern.table, round.response.taught)? else {
+        return Ok(());
+    };
+    let is_cut = server.sends < round.response.head;
+    if is_cut || room_for_response(round, invited) < round.response.before_last_piece(server) {
+        return Ok(());
+    }
+    let moment = Moment::from_millis(round.start);
+    if add_event(round, owed, Event::Expire(moment), Reply::Expired(0))?.is_some() {
+        return Ok(());
+    }
+    let pin = SetPin {
+        name: PinId {
+            key,
+            want: ServerSet::empty(),
+        },
+        server: place.target.server,
+        cost: COST,
+        moment,
+    };
+    let reply = match round.desk.pinning {
+        Pinning::Pinned(how) => Reply::Pinned(how),
+        Pinning::NoTable => Reply::NoTable,
+        Pinning::NoSuchServer => Reply::Refused(Refusal::NoSuchServer),
+        Pinning::TableFull => Reply::Refused(Refusal::TableFull),
+    };
+    let _ = add_event(round, owed, Event::Set(pin), reply)?;
+    Ok(())
+}
+
+/// How many bytes of the response the client takes.
+fn room_for_response(round: &Round, invited: bool) -> usize {
+    let before = if invited { CONTINUE.len() } else { 0 };
+    round.client.takes.saturating_sub(before)
 }
 
 /// How it ends after this end of the body, to a server that took a head of so many bytes.
@@ -309,10 +361,8 @@ fn cut(round: &Round) -> Outcome {
 
 /// How the response ends, and how many bytes of it the client is sent.
 fn response_end(round: &Round, server: Peer, invited: bool) -> (Outcome, usize) {
-    let sent = server.sends.min(round.response.len());
-    let before = if invited { CONTINUE.len() } else { 0 };
-    let room = round.client.takes.saturating_sub(before);
-    let due = if room < sent {
+    let sent = server.sends.min(round.response.bytes.len());
+    let due = if room_for_response(round, invited) < sent {
         Outcome::Dropped(DropCause::ResponseNotTaken(round.client.refuses))
     } else {
         match server.then {
@@ -352,7 +402,7 @@ fn add_got(round: &Round, end: End, got: &mut Vec<u8>) -> Result<(), AllocError>
     if end.invited {
         got.extend_from_slice(CONTINUE)?;
     }
-    got.extend_from_slice(front(&round.response, end.copied))?;
+    got.extend_from_slice(front(&round.response.bytes, end.copied))?;
     match end.due {
         Outcome::Answered(cause) => add_words(got, &["HTTP/1.1 ", status(cause), ANSWER]),
         _ => Ok(()),

@@ -28,10 +28,12 @@ pub(crate) enum Plant {
     NoQueue,
     /// The clock is a millisecond ahead.
     LaterMoment,
+    /// No answer teaches anything.
+    NoLessons,
 }
 
 /// All of them.
-pub(crate) const PLANTS: [Plant; 10] = [
+pub(crate) const PLANTS: [Plant; 11] = [
     Plant::LostByte,
     Plant::OtherByte,
     Plant::ShortResponse,
@@ -42,6 +44,7 @@ pub(crate) const PLANTS: [Plant; 10] = [
     Plant::OtherPorts,
     Plant::NoQueue,
     Plant::LaterMoment,
+    Plant::NoLessons,
 ];
 
 impl Plant {
@@ -55,7 +58,7 @@ impl Plant {
                 }
             }
             Plant::ShortResponse => {
-                let _ = round.response.pop();
+                let _ = round.response.bytes.pop();
             }
             Plant::LessTaken => {
                 if let Ok(server) = &mut round.dial {
@@ -66,7 +69,11 @@ impl Plant {
             }
             Plant::OtherSource => round.address = Ipv4Addr::new(1, 2, 3, 4),
             Plant::LaterMoment => round.start = round.start.saturating_add(1),
-            Plant::Forwarding | Plant::ShortKeys | Plant::OtherPorts | Plant::NoQueue => {
+            Plant::Forwarding
+            | Plant::ShortKeys
+            | Plant::OtherPorts
+            | Plant::NoQueue
+            | Plant::NoLessons => {
                 self.change_place(&mut round.site.first);
                 self.change_place(&mut round.site.second);
             }
@@ -80,6 +87,7 @@ impl Plant {
             Plant::ShortKeys => place.pattern.table = TableType::Text(KeyLen::new(1)),
             Plant::OtherPorts => place.target.endpoint.port ^= 1,
             Plant::NoQueue => place.target.queue = Some(0),
+            Plant::NoLessons => place.learns = false,
             _ => {}
         }
     }

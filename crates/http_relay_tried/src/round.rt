@@ -2,10 +2,11 @@
 
 use crate::body::Part;
 use crate::byte_wire::Peer;
+use crate::draw_response::Response;
 use crate::head::{Head, HeadText, Word};
 use crate::site::Site;
 use http_relay_wire::WireFault;
-use lb_desk_ports::{Asked, Refused, ScriptedOpening};
+use lb_desk_ports::{Asked, Pinning, Refused, ScriptedOpening};
 use std::net::Ipv4Addr;
 
 /// What the desk answers.
@@ -13,6 +14,8 @@ use std::net::Ipv4Addr;
 pub(crate) struct Desk {
     /// To the request for a server.
     pub(crate) asked: Asked,
+    /// To a pin that is to be set.
+    pub(crate) pinning: Pinning,
     /// To the requests for a connection, in turn. Those after the last are opened.
     pub(crate) openings: Vec<ScriptedOpening>,
     /// The event that is refused, counted from 0, and how.
@@ -41,7 +44,7 @@ pub(crate) struct Round {
     /// The server, or how a dial fails.
     pub(crate) dial: Result<Peer, WireFault>,
     /// All that the server would send.
-    pub(crate) response: Vec<u8>,
+    pub(crate) response: Response,
 }
 
 impl Round {

@@ -6,7 +6,7 @@ use crate::round::Round;
 use crate::tried_dialer::TriedDialer;
 use http_relay_head::HEAD_ROOM;
 use http_relay_serve::{Client, Outcome, Worker, serve_one};
-use lb_desk_ports::{Filed, OpenGate, Pinning, PortScript, ScriptedClock, ScriptedPort, Shut};
+use lb_desk_ports::{Filed, OpenGate, PortScript, ScriptedClock, ScriptedPort, Shut};
 use std::alloc::{AllocError, Global};
 
 /// What became of a round.
@@ -38,7 +38,7 @@ pub(crate) enum Difference {
 pub(crate) fn script_of(round: &Round) -> PortScript<'_> {
     PortScript {
         asked: round.desk.asked,
-        set: Pinning::NoTable,
+        set: round.desk.pinning,
         openings: &round.desk.openings,
         shut: Shut::Closed,
         filed: Filed::NotChecked,
@@ -61,7 +61,7 @@ pub(crate) fn serve<'a, R>(
     let mut worker = Worker {
         clock: ScriptedClock::new(alloc, round.start),
         gate: OpenGate,
-        dialer: TriedDialer::new(alloc, &round.response, round.dial),
+        dialer: TriedDialer::new(alloc, &round.response.bytes, round.dial),
     };
     let mut client = Client {
         wire: ByteWire::new(alloc, &round.input, round.client),

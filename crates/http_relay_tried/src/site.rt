@@ -2,13 +2,13 @@
 
 ghost use Rattle.std.specs.Prelude.{◌≡◌, ◌==◌, Some, None, IfOk, if◌then◌else◌};
 ghost use Rattle.lb_acl.specs.Keys.{IsKeyOf};
-ghost use Rattle.http_relay_tried.specs.Sites.{backend_for};
+ghost use Rattle.http_relay_tried.specs.Sites.{backend_for, lesson_by};
 
 use http_relay_serve::Routing;
 use http_relay_talk::{Lesson, Way};
 use lb_acl::{Head, StickOn, Version, pin_key};
 use lb_desk_model::{Request, RuleList};
-use lb_types::{Moment, ServerId};
+use lb_types::{Moment, ServerId, ServerSet};
 use std::alloc::{AllocError, Global};
 
 /// What a move of a pin costs at each backend.
@@ -23,6 +23,8 @@ pub(crate) struct Place {
     pub(crate) target: Way,
     pub(crate) forwards_address: bool,
     pub(crate) pattern: StickOn,
+    /// Answers may teach pins.
+    pub(crate) learns: bool,
 }
 
 impl Place {
@@ -37,6 +39,22 @@ impl Place {
             cost: COST,
             moment,
         })
+    }
+
+    /// What the answer to the request may teach.
+    fn lesson(&self, alloc: Global, request: &Request) -> Option<Lesson<'_>>
+        ensures { result ≡ lesson_by self.now.learns self.now.pattern request.now }
+    {
+        if !self.learns {
+            return None;
+        }
+        Some(Lesson::new(
+            alloc,
+            &self.pattern,
+            ServerSet::empty(),
+            request.cost,
+            request.moment,
+        ))
     }
 
     /// How the server of this number is reached.
@@ -81,7 +99,9 @@ impl Routing for Site {
       target = λ backend server. if backend == 0
           then (if server == site.first.target.server then Some site.first.target else None)
           else (if server == site.second.target.server then Some site.second.target else None);
-      lesson = λ backend request. None;
+      lesson = λ backend request. if backend == 0
+          then lesson_by site.first.learns site.first.pattern request
+          else lesson_by site.second.learns site.second.pattern request;
     } };
 
     fn backend(&self, head: &Head<'_>) -> Option<usize> {
@@ -121,7 +141,11 @@ impl Routing for Site {
         }
     }
 
-    fn lesson(&self, _alloc: Global, _backend: usize, _request: &Request) -> Option<Lesson<'_>> {
-        None
+    fn lesson(&self, alloc: Global, backend: usize, request: &Request) -> Option<Lesson<'_>> {
+        if backend == 0 {
+            self.first.lesson(alloc, request)
+        } else {
+            self.second.lesson(alloc, request)
+        }
     }
 }
