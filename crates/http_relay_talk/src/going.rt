@@ -52,9 +52,8 @@ pub fn go_on<'a, R, P: Port<R>, K: Clock<R>, D: Dialer<R>, C: Wire>(
     }
 }
 
-/// Takes a visit whose request was sent one step on, as `go_on` does. What the bytes teach that were read is learned before they are written.
-/// It needs neither target nor request: a visit that waits for its
-/// server has to keep neither.
+/// Takes a visit whose request was sent one step on, as `go_on` does. What was read is learned from before it is written. It needs
+/// neither target nor request: a visit that waits for its server has to keep neither.
 pub fn copy_on<'a, R, P: Port<R>, D: Dialer<R>, C: Wire>(
     rt: &R,
     port: &mut P,

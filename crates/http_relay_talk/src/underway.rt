@@ -15,7 +15,8 @@ pub struct Held<'a, S, W> {
     pub learning: Learning<'a>,
 }
 
-/// A visit that waits. It has no buffer, but for the beginning of a response that may still teach something, and no thread has to stay with it.
+/// A visit that waits. It has no buffer, except for the beginning of a response that may still teach something. No thread has to stay
+/// with it.
 pub enum Underway<'a, S, W> {
     /// The server is full.
     Queueing(Queueing),

@@ -14,7 +14,7 @@ use std::net::Ipv4Addr;
 pub(crate) struct Desk {
     /// To the request for a server.
     pub(crate) asked: Asked,
-    /// To a pin that is to be set.
+    /// To a pin that is set.
     pub(crate) pinning: Pinning,
     /// To the requests for a connection, in turn. Those after the last are opened.
     pub(crate) openings: Vec<ScriptedOpening>,

@@ -20,8 +20,8 @@ pub fn learns(sample: &KeySample) -> bool
     }
 }
 
-/// The key that the first bytes of an answer teach a table with this `stick on`, or none where they teach nothing. It is the key that
-/// a request with the cookie has.
+/// The key that the first bytes of an answer teach a table with this `stick on`, or none where they teach nothing. Tests show that it is the
+/// key of a request with the cookie; no clause says so.
 ///
 /// Only the bytes of a text key are copied. The only error is out of memory.
 pub fn taught_key(
