@@ -67,8 +67,8 @@ returns-in-Waits-Queueing-clause-begins g c =
     (c.in-Waits-Queueing.is ∙ ap (λ u. visit_step.Waits u) (c.in-Waits-Queueing.field-0-is ∙ ap (λ q. visit_stage.Queueing q) queueing))
     c.begin_visit-visit.ensures.steps)
 
-pub returns-in-Done-clause-begins : goal.returns-in-Done-clause-begins
-returns-in-Done-clause-begins g c =
+pub returns-clause-begins : goal.returns-clause-begins
+returns-clause-begins g c =
     let routes = g.T.Routing.routes c.args.routing.now in
     let port = port_seen g.P.Port.entries g.P.Port.refusals in
     let clock = clock_seen g.K.Clock.told g.K.Clock.pauses in

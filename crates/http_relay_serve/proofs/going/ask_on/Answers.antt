@@ -47,8 +47,8 @@ returns-in-Waits-Copying-clause-steps g c target request own headed h =
     (recorded (port c.go_on-visit.new.port) (clock c.go_on-visit.new.clock) (dialer c.go_on-visit.new.dialer)) (50 ∷ []) step)
     (c.in-Waits-Copying.is ∙ ap (λ u. visit_step.Waits u) c.in-Waits-Copying.field-0-is) steps)
 
-pub returns-in-Done-clause-steps : goal.returns-in-Done-clause-steps
-returns-in-Done-clause-steps g c target request own headed h =
+pub returns-clause-steps : goal.returns-clause-steps
+returns-clause-steps g c target request own headed h =
     let clock = clock_seen g.K.Clock.told g.K.Clock.pauses in
     let dialer = dialer_seen g.D.Dialer.dials g.D.Dialer.talks g.D.Dialer.failures in
     let wire = talk_of g.D.Connection.Wire.written g.D.Connection.Wire.reading g.D.Connection.Wire.faults in

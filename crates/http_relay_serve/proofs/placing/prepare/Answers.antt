@@ -21,8 +21,8 @@ returns-in-Ok-clause-prepares g c =
       subst (λ (behind : List ℕ). vec_len c.reserve.new.self + length behind ≤ vec_capacity c.reserve.new.self) c.rest.ensures c.in_ok-reserve.ensures.ok,
     )
 
-pub returns-in-Err-clause-prepares : goal.returns-in-Err-clause-prepares
-returns-in-Err-clause-prepares g c =
+pub returns-clause-prepares : goal.returns-clause-prepares
+returns-clause-prepares g c =
     let port = port_seen g.P.Port.entries g.P.Port.refusals in
     let clock = clock_seen g.K.Clock.told g.K.Clock.pauses in
     asks_at_moment (g.T.Routing.routes c.args.routing.now) c.args.backend c.head-head.result c.args.read.now.head (port c.args.port.now) (port c.ask.new.port)
