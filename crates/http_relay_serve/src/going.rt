@@ -21,8 +21,8 @@ use lb_desk_ports::{Clock, Port};
 /// Takes a request one step on, once there is what it waits for. A pause that it waits for must have been made by then, by the clock or
 /// otherwise. In the queue it asks for a connection again, and goes on as `begin` does. Otherwise it copies what one read of the
 /// response gives, as much as the room holds. Once the visit of its server is over, it gives the client an answer of the relay's
-/// own where that is due. It asks for memory only to
-/// learn from the response. The ports are those of the configuration that the request began with.
+/// own where that is due. It allocates only to learn from the response. The ports are those of the configuration that the request
+/// began with.
 pub fn go_on<'t, R, P: Port<R>, K: Clock<R>, G, D: Dialer<R>, C: Wire>(
     rt: &R,
     worker: &mut Worker<K, G, D>,

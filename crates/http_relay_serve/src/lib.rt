@@ -2,11 +2,12 @@
 //!
 //! Promised: `serve_one` reads a head, and asks the backend that takes it for a server, with the request that the configuration makes
 //! of the head. It visits that server and no other, and answers the client by itself where there is a `Cause` for that. The outcome
-//! has its cause. A slot is got at most once and given back, whatever failed, before an answer of the relay's own goes out. At
-//! most one pin is set, which the server's answer teaches. After the dial memory is asked for only to learn that. A `Routing` gives what the configuration says. `begin` and `go_on` do the same in steps, each of which
-//! gives the request back where it waits. All steps of a request, with anything of others between them, come to what `serve_one`
-//! promises of it. Start at `serve_one`, whose words are in `specs/Serves.antt`; those of the steps are in `specs/Steps.antt`. Which fault gives
-//! which outcome is in `specs/Outcomes.antt`, the answers' bytes are in `specs/Causes.antt`.
+//! has its cause. A slot is got at most once and given back, whatever failed, before an answer of the relay's own goes out. At most one
+//! pin is set, which the server's answer teaches; only for that is memory allocated after the dial. A `Routing` gives what the
+//! configuration says. `begin` and `go_on` do the same in steps, each of which gives the request back where it waits. All steps of a
+//! request, with anything of others between them, come to what `serve_one` promises of it. Start at `serve_one`, whose words are in
+//! `specs/Serves.antt`; those of the steps are in `specs/Steps.antt`. Which fault gives which outcome is in `specs/Outcomes.antt`, the
+//! answers' bytes are in `specs/Causes.antt`.
 #![tactic(auto)]
 
 mod answering;

@@ -14,9 +14,9 @@ use lb_desk_ports::{Clock, Gate, Port};
 use std::alloc::Global;
 
 /// Serves one request of the client, with one port for each backend of the configuration, by its number. The head is read into
-/// `room`. Memory is asked for three times before the dial. It is for the list of the fields, for what the
-/// configuration makes of the head, and for the 17,000 bytes of the head that the server gets. After the dial
-/// it is asked for only to learn from an answer: for a key of more than 32 bytes, and for a head that comes in several pieces.
+/// `room`. Memory is allocated three times before the dial: for the list of the fields, for what the configuration makes of the head, and
+/// for the 17,000 bytes of the head that the server gets. After the dial it is allocated only to learn from an answer: for a key of more
+/// than 32 bytes, and for a head that comes in several pieces.
 pub fn serve_one<R, T: Routing, P: Port<R>, K: Clock<R>, G: Gate<R>, D: Dialer<R>, C: Wire>(
     rt: &R,
     alloc: Global,

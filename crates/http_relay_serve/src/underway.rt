@@ -22,8 +22,8 @@ pub enum Stage<'a, S, W> {
     Copying(Held<'a, S, W>),
 }
 
-/// A request that waits. It has no buffer, but for the beginning of a response that may still teach something, and no thread has to stay with it. It can't be dropped where it holds a slot: one that goes on to
-/// its end gives that back.
+/// A request that waits. It has no buffer, except for the beginning of a response that may still teach something. No thread has to stay
+/// with it. It can't be dropped where it holds a slot: one that goes on to its end gives that back.
 pub struct Underway<'a, S, W, C> {
     pub client: Client<C>,
     /// The number of its backend.
