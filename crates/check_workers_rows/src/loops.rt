@@ -8,7 +8,7 @@ use crossbeam_channel::{Sender, bounded};
 use http_relay_system::SystemClock;
 use lb_acl::Version;
 use lb_desk_model::Event;
-use lb_desk_ports::{Asked, Filed, PortScript, Refused, ScriptedPort, Shut};
+use lb_desk_ports::{Asked, Filed, Pinning, PortScript, Refused, ScriptedPort, Shut};
 use lb_types::{Moment, ServerId};
 use rise_fall::Flip;
 use server_state::Checked;
@@ -57,6 +57,7 @@ fn check(server: u8, interval: u32) -> Check
 fn script(filed: Filed, refusing: Option<(u64, Refused)>) -> PortScript<'static> {
     PortScript {
         asked: Asked::NoServer,
+        set: Pinning::NoTable,
         openings: &[],
         shut: Shut::Closed,
         filed,

@@ -2,7 +2,9 @@ ghost use Rattle.std.specs.Prelude.{◌<◌};
 
 use check_workers_round::{Beginning, Check, Round, ScriptedProbes, Turn, make_round};
 use lb_desk_model::Event;
-use lb_desk_ports::{Asked, Clock, Filed, PortScript, Refused, ScriptedClock, ScriptedPort, Shut};
+use lb_desk_ports::{
+    Asked, Clock, Filed, Pinning, PortScript, Refused, ScriptedClock, ScriptedPort, Shut,
+};
 use lb_types::{Moment, ServerId};
 use std::alloc::{AllocError, Global};
 use std::test::Fail;
@@ -36,6 +38,7 @@ fn check(server: u8, interval: u32) -> Check
 fn script(refusing: Option<(u64, Refused)>) -> PortScript<'static> {
     PortScript {
         asked: Asked::NoServer,
+        set: Pinning::NoTable,
         openings: &[],
         shut: Shut::Closed,
         filed: Filed::NotChecked,

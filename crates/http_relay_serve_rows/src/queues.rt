@@ -1,6 +1,6 @@
 use http_relay_queue::{Waited, open_in_queue};
 use lb_desk_ports::{
-    Asked, Filed, Port, PortScript, ScriptedClock, ScriptedOpening, ScriptedPort, Shut,
+    Asked, Filed, Pinning, Port, PortScript, ScriptedClock, ScriptedOpening, ScriptedPort, Shut,
 };
 use lb_types::ServerId;
 
@@ -35,6 +35,7 @@ fn a_full_server_is_asked_every_50_milliseconds(rt: HostRuntime) {
     for (limit, openings, end, told) in ROWS {
         let script = PortScript {
             asked: Asked::NoServer,
+            set: Pinning::NoTable,
             openings,
             shut: Shut::Closed,
             filed: Filed::NotChecked,

@@ -10,7 +10,8 @@ use http_relay_wire::{FaultCounts, Script, ScriptedWire, WireFault};
 use lb_acl::{Head, KeySample, StickOn, TableType, pin_key};
 use lb_desk_model::{Entry, Event, Reply, Request, RuleList, ServedAs};
 use lb_desk_ports::{
-    Asked, Filed, OpenGate, PortScript, Refused, ScriptedClock, ScriptedOpening, ScriptedPort, Shut,
+    Asked, Filed, OpenGate, Pinning, PortScript, Refused, ScriptedClock, ScriptedOpening,
+    ScriptedPort, Shut,
 };
 use lb_types::{Moment, ServerId};
 use std::alloc::{AllocError, Global};
@@ -138,6 +139,7 @@ pub(crate) fn port_script<'a>(
 ) -> PortScript<'a> {
     PortScript {
         asked,
+        set: Pinning::NoTable,
         openings,
         shut: Shut::Closed,
         filed: Filed::NotChecked,

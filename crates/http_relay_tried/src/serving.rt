@@ -6,7 +6,7 @@ use crate::round::Round;
 use crate::tried_dialer::TriedDialer;
 use http_relay_head::HEAD_ROOM;
 use http_relay_serve::{Client, Outcome, Worker, serve_one};
-use lb_desk_ports::{Filed, OpenGate, PortScript, ScriptedClock, ScriptedPort, Shut};
+use lb_desk_ports::{Filed, OpenGate, Pinning, PortScript, ScriptedClock, ScriptedPort, Shut};
 use std::alloc::{AllocError, Global};
 
 /// What became of a round.
@@ -38,6 +38,7 @@ pub(crate) enum Difference {
 pub(crate) fn script_of(round: &Round) -> PortScript<'_> {
     PortScript {
         asked: round.desk.asked,
+        set: Pinning::NoTable,
         openings: &round.desk.openings,
         shut: Shut::Closed,
         filed: Filed::NotChecked,

@@ -1,8 +1,9 @@
 -- What the calls of a port make: events of the machine in `lb_desk_model`, each with its reply.
 use Rattle.std.specs.Prelude.{◌≡◌, ◌⊎◌, ℕ, Bool, ⊤, List, [], ◌∷◌, ◌++◌, Result, Ok, Err}
 use Rattle.lb_desk_model.specs.declared.entry.Entry.{Entry}
-use Rattle.lb_desk_model.specs.declared.event.Event.TheVariants.{Serve, Open, Close, Expire, Check}
+use Rattle.lb_desk_model.specs.declared.event.Event.TheVariants.{Serve, Set, Open, Close, Expire, Check}
 use Rattle.lb_desk_model.specs.declared.event.Request.{Request}
+use Rattle.lb_desk_model.specs.declared.event.SetPin.{SetPin}
 use Rattle.lb_desk_model.specs.declared.reply.Refusal.TheVariants as refusal
 use Rattle.lb_desk_model.specs.declared.reply.Reply.{Reply}
 use Rattle.lb_desk_model.specs.declared.reply.Reply.TheVariants as reply
@@ -10,6 +11,8 @@ use Rattle.lb_desk_ports.specs.Calls.{entry}
 use Rattle.lb_desk_ports.specs.declared.refused.Refused.{Refused}
 use Rattle.lb_desk_ports.specs.declared.replies.Asked.{Asked}
 use Rattle.lb_desk_ports.specs.declared.replies.Asked.TheVariants as asked
+use Rattle.lb_desk_ports.specs.declared.replies.Pinning.{Pinning}
+use Rattle.lb_desk_ports.specs.declared.replies.Pinning.TheVariants as pinning
 use Rattle.lb_desk_ports.specs.declared.replies.Opening.{Opening}
 use Rattle.lb_desk_ports.specs.declared.replies.Opening.TheVariants as opening
 use Rattle.lb_desk_ports.specs.declared.replies.Shut.{Shut}
@@ -23,6 +26,12 @@ abbrev pub asked_reply : Asked → Reply
 asked_reply (asked.Served server how) = reply.Served server how
 asked_reply asked.NoServer = reply.Refused refusal.NoServer
 asked_reply asked.NoSuchServer = reply.Refused refusal.NoSuchServer
+
+abbrev pub pinning_reply : Pinning → Reply
+pinning_reply (pinning.Pinned how) = reply.Pinned how
+pinning_reply pinning.NoTable = reply.NoTable
+pinning_reply pinning.NoSuchServer = reply.Refused refusal.NoSuchServer
+pinning_reply pinning.TableFull = reply.Refused refusal.TableFull
 
 abbrev pub opening_reply : {S : Type 0} → Opening S → Reply
 opening_reply (opening.Opened slot) = reply.Opened
@@ -52,6 +61,14 @@ AddsAsk request old new (Ok answer) =
     × (new ≡ old ++ expiry ++ entry (Serve request) (asked_reply answer) ∷ [])
 AddsAsk request old new (Err refused) =
     (new ≡ old) ⊎ ((expiry : List Entry) × IsExpiry request.moment expiry × (new ≡ old ++ expiry))
+
+-- Setting a pin adds the entry of an expiry at the pin's moment, and then that of the pin. Where the second was refused, the first stands
+abbrev pub AddsPin : SetPin → List Entry → List Entry → Result Pinning Refused → Type 0
+AddsPin pin old new (Ok answer) =
+    (expiry : List Entry) × IsExpiry pin.moment expiry
+    × (new ≡ old ++ expiry ++ entry (Set pin) (pinning_reply answer) ∷ [])
+AddsPin pin old new (Err refused) =
+    (new ≡ old) ⊎ ((expiry : List Entry) × IsExpiry pin.moment expiry × (new ≡ old ++ expiry))
 
 -- the entries that opening a connection to the server adds
 abbrev pub opening_entries : {S : Type 0} → ℕ → Result (Opening S) Refused → List Entry

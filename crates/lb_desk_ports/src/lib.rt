@@ -23,7 +23,7 @@ pub use gate::{Gate, OpenGate, Point};
 pub use mover::Mover;
 pub use port::Port;
 pub use refused::Refused;
-pub use replies::{Asked, Filed, Installing, Opening, Shut};
+pub use replies::{Asked, Filed, Installing, Opening, Pinning, Shut};
 pub use scripted_clock::ScriptedClock;
 pub use scripted_mover::{MoverScript, ScriptedMover};
 pub use scripted_port::{PortScript, ScriptedOpening, ScriptedPort, ScriptedSlot};

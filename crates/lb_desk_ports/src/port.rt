@@ -1,14 +1,14 @@
 ghost use Rattle.std.specs.Prelude.{◌≡◌, ◌++◌, ℕ, List};
 ghost use Rattle.lb_desk_model.specs.declared.entry.Entry.{Entry};
 ghost use Rattle.lb_desk_ports.specs.Calls.{after_call};
-ghost use Rattle.lb_desk_ports.specs.Ports.{AddsAsk, opening_entries, shutting_entries, filing_entries, IfOpened};
+ghost use Rattle.lb_desk_ports.specs.Ports.{AddsAsk, AddsPin, opening_entries, shutting_entries, filing_entries, IfOpened};
 
-use crate::{Asked, Filed, Opening, Refused, Shut};
-use lb_desk_model::Request;
+use crate::{Asked, Filed, Opening, Pinning, Refused, Shut};
+use lb_desk_model::{Request, SetPin};
 use lb_types::ServerId;
 
 /// A backend, as a caller that serves requests or files checks sees it. Each call makes events, one step of the backend each. A call
-/// that is refused when out of memory or as `Worn` makes none, except for the first of the two of `ask`.
+/// that is refused when out of memory or as `Worn` makes none, except for the first of the two of `ask` and of `set`.
 pub trait Port<R> {
     /// A connection that is open at a server. It can't be dropped: the caller that got it gives it back.
     type Slot;
@@ -27,6 +27,12 @@ pub trait Port<R> {
     /// served.
     fn ask(&mut self, rt: &R, request: Request) -> Result<Asked, Refused>
         ensures entries { AddsAsk request (entries self.old) (entries self.new) result }
+        ensures refusals { refusals self.new ≡ after_call result (refusals self.old) };
+
+    /// Has a pin stand at a server, where its session was seen: first pins go that weren't used for long at the pin's moment, and then
+    /// the pin is set.
+    fn set(&mut self, rt: &R, pin: SetPin) -> Result<Pinning, Refused>
+        ensures entries { AddsPin pin (entries self.old) (entries self.new) result }
         ensures refusals { refusals self.new ≡ after_call result (refusals self.old) };
 
     /// Opens a connection to the server.

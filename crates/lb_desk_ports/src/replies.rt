@@ -1,8 +1,8 @@
 ghost use Rattle.std.specs.Prelude.{◌≡◌};
-ghost use Rattle.lb_desk_ports.specs.Ports.{asked_reply, opening_reply, shut_reply, filed_reply};
+ghost use Rattle.lb_desk_ports.specs.Ports.{asked_reply, pinning_reply, opening_reply, shut_reply, filed_reply};
 ghost use Rattle.lb_desk_ports.specs.Movers.{installing_reply};
 
-use lb_desk_model::{Refusal, Reply, ServedAs};
+use lb_desk_model::{PinnedAs, Refusal, Reply, ServedAs};
 use lb_types::ServerId;
 use pin_set::Score;
 use server_state::Checked;
@@ -16,6 +16,19 @@ pub enum Asked {
     NoServer,
     /// 10: a rule names a server that the backend doesn't have.
     NoSuchServer,
+}
+
+/// What a backend answers to a pin that is to stand at a server.
+#[derive(Clone, Copy, Debug, PartialEq, Eq, Hash)]
+pub enum Pinning {
+    /// The pin stands there.
+    Pinned(PinnedAs),
+    /// The backend has no table of pins.
+    NoTable,
+    /// 10: the pin's server, or one that it wants, isn't of the backend.
+    NoSuchServer,
+    /// 60: the table is full, and keeps its pins.
+    TableFull,
 }
 
 /// What a backend answers to a request for a connection.
@@ -67,6 +80,20 @@ impl Asked {
             Asked::Served(server, how) => Reply::Served(*server, *how),
             Asked::NoServer => Reply::Refused(Refusal::NoServer),
             Asked::NoSuchServer => Reply::Refused(Refusal::NoSuchServer),
+        }
+    }
+}
+
+impl Pinning {
+    /// The answer as the journal records it.
+    pub fn reply(self) -> Reply
+        ensures { result ≡ pinning_reply self }
+    {
+        match self {
+            Pinning::Pinned(how) => Reply::Pinned(how),
+            Pinning::NoTable => Reply::NoTable,
+            Pinning::NoSuchServer => Reply::Refused(Refusal::NoSuchServer),
+            Pinning::TableFull => Reply::Refused(Refusal::TableFull),
         }
     }
 }

@@ -1,8 +1,8 @@
 ghost use Rattle.std.specs.Prelude.{◌≡◌, []};
 
 use crate::log::Log;
-use crate::{Asked, Filed, Opening, Port, Refused, Shut};
-use lb_desk_model::{Entry, Event, Request};
+use crate::{Asked, Filed, Opening, Pinning, Port, Refused, Shut};
+use lb_desk_model::{Entry, Event, Request, SetPin};
 use lb_types::ServerId;
 use std::alloc::Global;
 
@@ -22,6 +22,8 @@ pub enum ScriptedOpening {
 pub struct PortScript<'a> {
     /// To each request for a server.
     pub asked: Asked,
+    /// To each pin that is to be set.
+    pub set: Pinning,
     /// To the requests for a connection, in turn. Those after the last are opened.
     pub openings: &'a [ScriptedOpening],
     /// To each connection that is given back.
@@ -98,6 +100,12 @@ impl<R> Port<R> for ScriptedPort<'_> {
 
     fn ask(&mut self, _rt: &R, request: Request) -> Result<Asked, Refused> {
         let answer = self.log.ask(request, &self.script.asked);
+        self.log.note(&answer);
+        answer
+    }
+
+    fn set(&mut self, _rt: &R, pin: SetPin) -> Result<Pinning, Refused> {
+        let answer = self.log.set(pin, self.script.set);
         self.log.note(&answer);
         answer
     }

@@ -8,6 +8,8 @@ use Rattle.lb_desk_model.specs.States.{State}
 use Rattle.lb_desk_model.specs.Steps.{Step}
 use Rattle.lb_desk_ports.specs.declared.replies.Asked.{Asked}
 use Rattle.lb_desk_ports.specs.declared.replies.Asked.TheVariants as asked
+use Rattle.lb_desk_ports.specs.declared.replies.Pinning.{Pinning}
+use Rattle.lb_desk_ports.specs.declared.replies.Pinning.TheVariants as pinning
 use Rattle.lb_desk_ports.specs.declared.replies.Filed.{Filed}
 use Rattle.lb_desk_ports.specs.declared.replies.Filed.TheVariants as filed
 use Rattle.lb_desk_ports.specs.declared.replies.Installing.{Installing}
@@ -21,6 +23,12 @@ abbrev pub asked_of : Reply → Asked
 asked_of (reply.Served server how) = asked.Served server how
 asked_of (reply.Refused refusal.NoSuchServer) = asked.NoSuchServer
 asked_of other = asked.NoServer
+
+abbrev pub pinning_of : Reply → Pinning
+pinning_of (reply.Pinned how) = pinning.Pinned how
+pinning_of reply.NoTable = pinning.NoTable
+pinning_of (reply.Refused refusal.TableFull) = pinning.TableFull
+pinning_of other = pinning.NoSuchServer
 
 abbrev pub filed_of : Reply → Filed
 filed_of (reply.Checked checked) = filed.Checked checked

@@ -1,11 +1,11 @@
 ghost use Rattle.std.specs.Prelude.{◌≡◌, ◌++◌};
-ghost use Rattle.lb_desk_ports.specs.Ports.{AddsAsk, filing_entries, shutting_entries};
+ghost use Rattle.lb_desk_ports.specs.Ports.{AddsAsk, AddsPin, filing_entries, shutting_entries};
 ghost use Rattle.lb_desk_seat.specs.Seats.{Adds, KeepsCounts, entries_at};
 
 use crate::Seat;
-use crate::replies::{asked, filed};
-use lb_desk_model::{Event, Request};
-use lb_desk_ports::{Asked, Filed, Opening, Port, Refused, Shut};
+use crate::replies::{asked, filed, pinning};
+use lb_desk_model::{Event, Request, SetPin};
+use lb_desk_ports::{Asked, Filed, Opening, Pinning, Port, Refused, Shut};
 use lb_desk_shared::{Naming, Slot};
 use lb_types::ServerId;
 use std::hash::BuildHasher;
@@ -20,6 +20,15 @@ impl<S: BuildHasher, B: Naming> Seat<'_, S, B> {
         self.tell(rt, Event::Expire(request.moment))?;
         let reply = self.tell(rt, Event::Serve(request))?;
         Ok(asked(&reply))
+    }
+
+    // Two holds of the desk, as for a request.
+    fn pin<R: Wait>(&mut self, rt: &R, pin: SetPin) -> Result<Pinning, Refused>
+        ensures adds { AddsPin pin (entries_at self.old) (entries_at self.new) result }
+        ensures counts { KeepsCounts self.old self.new }
+    {
+        let reply = self.tell_at(rt, pin.moment, Event::Set(pin))?;
+        Ok(pinning(&reply))
     }
 
     #[tactic(auto, using(crate::proofs::Asking::shutting_adds))]
@@ -53,6 +62,12 @@ impl<R: Wait, S: BuildHasher, B: Naming> Port<R> for Seat<'_, S, B> {
 
     fn ask(&mut self, rt: &R, request: Request) -> Result<Asked, Refused> {
         let answer = self.serve(rt, request);
+        self.count(&answer);
+        answer
+    }
+
+    fn set(&mut self, rt: &R, pin: SetPin) -> Result<Pinning, Refused> {
+        let answer = self.pin(rt, pin);
         self.count(&answer);
         answer
     }

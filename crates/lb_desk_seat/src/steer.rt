@@ -1,4 +1,5 @@
-ghost use Rattle.std.specs.Prelude.{◌≡◌, false};
+ghost use Rattle.std.specs.Prelude.{◌≡◌, false, IfOk};
+ghost use Rattle.lb_desk_seat.specs.Replies.{Answers};
 ghost use Rattle.lb_desk_seat.specs.Seats.{KeepsCounts, entries_at};
 ghost use Rattle.lb_desk_shared.specs.Calls.{is_of_a_connection};
 ghost use Rattle.lb_desk_steer.specs.Steering.{AddsAt};
@@ -17,9 +18,15 @@ use std::sync::Wait;
 
 impl<S: BuildHasher, B: Naming> Seat<'_, S, B> {
     // Two holds of the desk, as for a request.
-    fn tell_at<R: Wait>(&mut self, rt: &R, moment: Moment, event: Event) -> Result<Reply, Refused>
+    pub(crate) fn tell_at<R: Wait>(
+        &mut self,
+        rt: &R,
+        moment: Moment,
+        event: Event,
+    ) -> Result<Reply, Refused>
         requires { is_of_a_connection event ≡ false }
         ensures adds { AddsAt moment event (entries_at self.old) (entries_at self.new) result }
+        ensures fits { IfOk result (λ reply. Answers event reply) }
         ensures counts { KeepsCounts self.old self.new }
         ensures keeper { self.new.pass.keeper ≡ self.old.pass.keeper }
     {

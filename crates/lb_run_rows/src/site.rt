@@ -2,7 +2,7 @@ use http_relay_lobby::Arrival;
 use http_relay_wire::WireFault;
 use lb_config::{Config, read_config};
 use lb_desk_model::ServedAs;
-use lb_desk_ports::{Asked, Filed, PortScript, Shut};
+use lb_desk_ports::{Asked, Filed, Pinning, PortScript, Shut};
 use lb_types::ServerId;
 use std::io;
 use std::io::{ErrorKind, Read, Write};
@@ -33,6 +33,7 @@ pub(crate) fn config(rt: &HostRuntime, port: u16) -> Result<Config, Fail> {
 pub(crate) fn open_port() -> PortScript<'static> {
     PortScript {
         asked: Asked::Served(ServerId::new(0), ServedAs::Loose),
+        set: Pinning::NoTable,
         openings: &[],
         shut: Shut::Closed,
         filed: Filed::NotChecked,

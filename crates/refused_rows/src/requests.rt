@@ -8,7 +8,7 @@ use http_relay_wire::{Script, ScriptedWire, WireFault};
 use lb_config::{Config, read_config};
 use lb_desk_model::{Entry, Reply, ServedAs};
 use lb_desk_ports::{
-    Asked, Filed, OpenGate, PortScript, Refused, ScriptedClock, ScriptedPort, Shut,
+    Asked, Filed, OpenGate, Pinning, PortScript, Refused, ScriptedClock, ScriptedPort, Shut,
 };
 use lb_routes::ConfigRoutes;
 use lb_types::ServerId;
@@ -50,6 +50,7 @@ const SERVICE_UNAVAILABLE: &[u8] =
 fn port() -> PortScript<'static> {
     PortScript {
         asked: Asked::Served(ServerId::new(0), ServedAs::Made),
+        set: Pinning::NoTable,
         openings: &[],
         shut: Shut::Closed,
         filed: Filed::NotChecked,
