@@ -4,7 +4,7 @@ ghost use Rattle.lb_desk_ports.specs.Calls.{entry};
 ghost use Rattle.lb_desk_ports.specs.Ports.{IfOpened, opening_reply, shut_reply};
 ghost use Rattle.lb_desk_shared.specs.Calls.{AddsPlan, AddsStep, IsStepAt, is_of_a_connection};
 ghost use Rattle.lb_desk_shared.specs.Closing.{Closes, fault_of};
-ghost use Rattle.lb_desk_shared.specs.Desks.{AtAPoint, IsCopyOf};
+ghost use Rattle.lb_desk_shared.specs.Desks.{AtAPoint, IsCopyOf, IsOutOfPasses};
 ghost use Rattle.lb_desk_model.specs.declared.event.Event.TheVariants as event;
 ghost use Rattle.lb_desk_step.specs.Desk.{StandsAt, is_worn_for, may_take_memory};
 ghost use Rattle.lb_desk_step.specs.Planning.{is_worn_for_two};
@@ -69,10 +69,11 @@ impl<S: BuildHasher, B: Naming> SharedDesk<S, B> {
 
     /// A pass for one more caller, with no receipt. It is no event, and allocates nothing.
     ///
-    /// Refused only as `Worn`, which comes once 2^64 - 1 passes were given out; no clause outside the crate says so.
+    /// Refused only as `Worn` (81), at a point of the backend's history at which 2^64 - 1 passes were given out.
     pub fn enter<R: Wait>(&self, rt: &R) -> Result<Pass<Entry, B>, Refused>
         ensures pass { IfOk result (λ pass. pass ≡ new_pass self.now) }
         ensures refused { IfErr result (λ refused. refused ≡ Refused.Worn) }
+        ensures worn { OnErr result (IsOutOfPasses (B.opening self.now) self.now) }
     {
         self.hold(rt).enter()
     }

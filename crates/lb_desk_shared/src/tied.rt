@@ -2,7 +2,7 @@ ghost use Rattle.std.specs.Prelude.{◌≡◌, ◌+◌, ◌<◌, ◌^◌, ◌≤
 ghost use Rattle.lb_desk_ports.specs.Calls.{entry};
 ghost use Rattle.lb_desk_shared.specs.Calls.{AddsPlan, IsStepAt};
 ghost use Rattle.lb_desk_shared.specs.Closing.{Closes, fault_of};
-ghost use Rattle.lb_desk_shared.specs.Desks.{AtAPoint, IsReached};
+ghost use Rattle.lb_desk_shared.specs.Desks.{AtAPoint, IsOutOfPasses, IsReached};
 ghost use Rattle.lb_desk_step.specs.Desk.{StandsAt, Takes, is_worn_for, may_take_memory};
 ghost use Rattle.lb_desk_step.specs.Planning.{TakesPlan, is_worn_for_two};
 ghost use Rattle.lb_desk_tie.specs.Receipts.{AreOf, new_keeper, new_pass, with_entry, with_pass, with_receipt};
@@ -68,6 +68,7 @@ impl<S: BuildHasher, B: Naming> TiedDesk<S, B> {
         ensures worn { IsErr result ↔ (2 ^ 64 ≤ self.old.keeper.passes + 1) }
         ensures refused { IfErr result (λ refused. refused ≡ Refused.Worn) }
         ensures err { OnErr result (self.new ≡ self.old) }
+        ensures worn_at { OnErr result (IsOutOfPasses (B.opening self.old.keeper.number) self.old.keeper.number) }
     {
         if self.keeper.out() == u64::MAX {
             return Err(Refused::Worn);
