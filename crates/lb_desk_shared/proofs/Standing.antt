@@ -14,6 +14,7 @@ use Rattle.lb_desk_step.specs.declared.taken.TakenPlan.{TakenPlan}
 use Rattle.lb_desk_step.specs.Desk.{DeskView, KeepsHeadline, StandsAt, Takes}
 use Rattle.lb_desk_step.specs.Planning.{TakesPlan}
 use Rattle.lb_desk_step.proofs.NeverBad.{none_is_bad}
+use Rattle.lb_desk_tail.specs.Tail.{TailView}
 use Rattle.lb_desk_tie.specs.Receipts.{IsSound, KeeperView, PassView, Shares, receipts_of, with_receipt}
 use Rattle.lb_desk_shared.specs.declared.closing.CloseFault.{CloseFault}
 use Rattle.lb_desk_shared.specs.declared.closing.CloseFault.TheVariants.{PassesOut, SlotsOut}
@@ -51,6 +52,16 @@ pub out_of_passes : (backend : BackendParts) (desk : DeskView) (keeper : KeeperV
     → StandsAt backend keeper.history desk → 2 ^ 64 ≤ keeper.passes + 1 → IsOutOfPasses backend keeper.number
 out_of_passes backend desk keeper at none =
     record { tied = record { desk = desk; keeper = keeper }; is = refl; stands = at; none_left = none }
+
+-- an event leaves the journal its size
+pub same_size : (old new : DeskView) (event : Event) (reply : Reply) → Takes old event reply new → new.journal.capacity ≡ old.journal.capacity
+same_size old new event reply takes = ap (λ (t : TailView Entry). t.capacity) takes.journal
+
+-- and so do two in one go
+pub same_size_by_plan : (old new : DeskView) (taken : TakenPlan) → TakesPlan old taken new → new.journal.capacity ≡ old.journal.capacity
+same_size_by_plan old new taken takes =
+    same_size takes.plans.between new (Install takes.plans.plan) (Installed taken.score) takes.plans.install
+    ∙ same_size old takes.plans.between Snapshot (Sheet takes.plans.sheet) takes.plans.snapshot
 
 -- behind two events in one go it stands at the history with both entries
 pub stands_by_plan : (backend : BackendParts) (history : List Entry) (old new : DeskView) (taken : TakenPlan)

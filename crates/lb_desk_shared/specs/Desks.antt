@@ -25,8 +25,9 @@ pub record IsReached (backend : BackendParts) (receipts : List (ℕ × Entry)) (
   pub stand : Each (StandsIn history) receipts
   pub rise : rises receipts ≡ true
 
--- the copy has what the journal keeps
-pub record IsCopyOf (journal : TailView Entry) (copy : JournalCopy) : Type 0 where
+-- the copy has what the journal keeps, which is at most so many entries
+pub record IsCopyOf (size : ℕ) (journal : TailView Entry) (copy : JournalCopy) : Type 0 where
+  pub capacity : journal.capacity ≡ size
   pub first : copy.first ≡ journal.first
   pub entries : copy.entries.items ≡ journal.entries
 

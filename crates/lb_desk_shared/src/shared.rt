@@ -52,6 +52,7 @@ impl<S: BuildHasher, B: Naming> SharedDesk<S, B> {
     pub fn of(opened: Opened<Entry>, number: u64, desk: Desk<S>) -> Self
         requires table { opened ≡ B.table_of number }
         requires opening { StandsAt (B.opening number) [] desk }
+        requires size { desk.journal.capacity ≡ B.journal_size number }
         ensures { result ≡ number }
     {
         SharedDesk {
@@ -261,8 +262,8 @@ impl<S: BuildHasher, B: Naming> SharedDesk<S, B> {
         copy.rows(alloc)
     }
 
-    /// A copy of the journal at one moment. All receipts of the pass are of events before that moment. It is no event, and the pass
-    /// gets no receipt.
+    /// A copy of all that the journal keeps at one moment. All receipts of the pass are of events before that moment. It is no event,
+    /// and the pass gets no receipt.
     ///
     /// The others wait while each entry is copied. The only error is out of memory.
     pub fn entries<R: Wait>(
@@ -276,7 +277,7 @@ impl<S: BuildHasher, B: Naming> SharedDesk<S, B> {
             (λ copy. AtAPoint
             (B.opening self.now)
             pass.old.receipts
-            (λ desk. IsCopyOf desk.journal copy)) }
+            (λ desk. IsCopyOf (B.journal_size self.now) desk.journal copy)) }
         ensures pass { pass.new ≡ pass.old }
     {
         let mut held = self.hold(rt);
@@ -318,6 +319,7 @@ impl<S: BuildHasher + Drop, B: Naming> SharedDesk<S, B> {
     pub fn close(self, passes: Vec<Pass<Entry, B>>) -> Result<Closing, StillOut<S, B>>
         requires { AreOf self passes.items }
         ensures closes { IfOk result (λ closing. Closes (B.opening self) passes.items closing) }
+        ensures size { IfOk result (λ closing. closing.journal.capacity ≡ B.journal_size self) }
         ensures fault { IfErr result
             (λ out. out.desk.keeper.number ≡ self
             → fault_of out.desk (vec_len passes) ≡ Some out.fault) }
