@@ -131,6 +131,7 @@ fn share<B: Naming + Send + Sync, R: Runtime + Threads + Wait + Sync>(
 ) -> Result<()>
     requires table { opened ≡ B.table_of 0 }
     requires opening { B.opening 0 ≡ backend.now }
+    requires size { B.journal_size 0 ≡ JOURNAL }
 {
     let desk = Desk::open(alloc, backend, JOURNAL, hasher)?;
     let desk = SharedDesk::<RandomState, B>::of(opened, 0, desk);

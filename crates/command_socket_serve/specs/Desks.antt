@@ -1,7 +1,7 @@
 -- The desks of backends, as one who carries out commands sees them.
 use Rattle.std.specs.Prelude.{◌≡◌, ℕ, List, Some, slice_get, slice_set}
 use Rattle.lb_desk_model.specs.declared.entry.Entry.{Entry}
-use Rattle.lb_desk_model.specs.Backends.{BackendParts}
+use Rattle.lb_desk_steer.specs.Steering.{OpenedBackend}
 
 pub record DeskSeen : Type 0 where
   -- the events that were made, each with its reply
@@ -9,9 +9,9 @@ pub record DeskSeen : Type 0 where
   -- how often it was asked to plan while everyone else waits
   pub planned_now : ℕ
   -- the backend, as it opened
-  pub backend : BackendParts
+  pub backend : OpenedBackend
 
-abbrev pub desk_seen : {D : Type 0} → (D → List Entry) → (D → ℕ) → (D → BackendParts) → D → DeskSeen
+abbrev pub desk_seen : {D : Type 0} → (D → List Entry) → (D → ℕ) → (D → OpenedBackend) → D → DeskSeen
 desk_seen entries planned_now backend desk = record { entries = entries desk; planned_now = planned_now desk; backend = backend desk }
 
 -- this was done at the desk of the backend at the place, and nothing at any other one

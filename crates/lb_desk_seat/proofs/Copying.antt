@@ -1,5 +1,5 @@
 -- Copies are of a moment after all events of the pass.
-use Rattle.std.proofs.Common.{◌≡◌, ℕ, zero, suc, ◌+◌, ◌≤◌, true, nat_le, List, [], ◌∷◌, ◌++◌, length, drop, Some, sym, ap, ◌∙◌, arith}
+use Rattle.std.proofs.Common.{◌≡◌, ℕ, zero, suc, ◌+◌, ◌≤◌, true, nat_le, List, [], ◌∷◌, ◌++◌, length, drop, Some, sym, ap, subst, ◌∙◌, arith}
 use Rattle.std.specs.Prelude.{slice_get}
 use Rattle.std.proofs.lemmas.Bool.{and_parts}
 use Rattle.std.proofs.lemmas.Bool.Decides.{nat_tests}
@@ -10,7 +10,8 @@ use Rattle.lb_desk_model.specs.Seen.{Seen}
 use Rattle.lb_desk_shared.specs.declared.journal_copy.JournalCopy.{JournalCopy}
 use Rattle.lb_desk_shared.specs.Calls.{entries_of}
 use Rattle.lb_desk_shared.specs.Desks.{AtAPoint, IsCopyOf}
-use Rattle.lb_desk_steer.specs.Steering.{AreIn, ArePinsAfter, IsJournalAfter, Moment}
+use Rattle.lb_desk_steer.specs.Steering.{AreIn, ArePinsAfter, IsJournalAfter, Moment, OpenedBackend}
+use Rattle.lb_desk_tail.specs.Tail.{IsTailOf, TailView}
 use Rattle.lb_desk_tie.specs.Receipts.{Each, StandsIn, rises_from}
 
 cut_before : {A : Type 0} (xs : List A) (n k : ℕ) (x : A) → n ≤ k → slice_get xs k ≡ Some x → (before : List A) × (drop n xs ≡ before ++ x ∷ drop (suc k) xs)
@@ -50,19 +51,21 @@ moment_of backend receipts point =
       has = are_in reached.history 0 receipts reached.stand reached.rise;
     }
 
-pub pins_after : (backend : BackendParts) (receipts : List (ℕ × Entry)) (pins : List TablePin)
-    → AtAPoint backend receipts (λ desk. pins ≡ desk.shown.pins) → ArePinsAfter backend (entries_of receipts) pins
+pub pins_after : (backend : OpenedBackend) (receipts : List (ℕ × Entry)) (pins : List TablePin)
+    → AtAPoint backend.parts receipts (λ desk. pins ≡ desk.shown.pins) → ArePinsAfter backend (entries_of receipts) pins
 pins_after backend receipts pins point =
-    (moment_of backend receipts (point.0, point.1, tt), point.2 ∙ ap (λ (s : Seen). s.pins) (sym point.1.stands.reaches.is))
+    (moment_of backend.parts receipts (point.0, point.1, tt), point.2 ∙ ap (λ (s : Seen). s.pins) (sym point.1.stands.reaches.is))
 
-pub journal_after : (backend : BackendParts) (receipts : List (ℕ × Entry)) (copy : JournalCopy)
-    → AtAPoint backend receipts (λ desk. IsCopyOf desk.journal copy) → IsJournalAfter backend (entries_of receipts) copy.first copy.entries.items
+pub journal_after : (backend : OpenedBackend) (receipts : List (ℕ × Entry)) (copy : JournalCopy)
+    → AtAPoint backend.parts receipts (λ desk. IsCopyOf backend.journal_size desk.journal copy)
+    → IsJournalAfter backend (entries_of receipts) copy.first copy.entries.items
 journal_after backend receipts copy point =
-    let end = point.1.stands.end in
-    let history = point.1.history in
-    let first : copy.first ≡ point.0.journal.first = point.2.first in
-    let entries : copy.entries.items ≡ point.0.journal.entries = point.2.entries in (
-      moment_of backend receipts (point.0, point.1, tt),
-      entries ∙ end.kept ∙ ap (λ (n : ℕ). drop n history) (sym first),
-      (λ i. first i + length (entries i)) ∙ end.counted,
+    let copied = point.2 in
+    let size : point.0.journal.capacity ≡ backend.journal_size = copied.capacity in
+    let first : copy.first ≡ point.0.journal.first = copied.first in
+    let entries : copy.entries.items ≡ point.0.journal.entries = copied.entries in
+    let same : point.0.journal ≡ record { capacity = backend.journal_size; first = copy.first; entries = copy.entries.items } =
+    λ i. record { capacity = size i; first = sym first i; entries = sym entries i } in (
+      moment_of backend.parts receipts (point.0, point.1, tt),
+      subst (λ (t : TailView Entry). IsTailOf point.1.history t) same point.1.stands.end,
     )

@@ -4,7 +4,7 @@ ghost use Rattle.lb_desk_ports.specs.Calls.{entry};
 ghost use Rattle.lb_desk_ports.specs.Ports.{IfOpened, opening_reply, shut_reply};
 ghost use Rattle.lb_desk_shared.specs.Calls.{AddsPlan, AddsStep, IsStepAt, is_of_a_connection};
 ghost use Rattle.lb_desk_shared.specs.Closing.{Closes, fault_of};
-ghost use Rattle.lb_desk_shared.specs.Desks.{AtAPoint, IsCopyOf};
+ghost use Rattle.lb_desk_shared.specs.Desks.{AtAPoint, IsCopyOf, IsOutOfPasses};
 ghost use Rattle.lb_desk_model.specs.declared.event.Event.TheVariants as event;
 ghost use Rattle.lb_desk_step.specs.Desk.{StandsAt, is_worn_for, may_take_memory};
 ghost use Rattle.lb_desk_step.specs.Planning.{is_worn_for_two};
@@ -52,6 +52,7 @@ impl<S: BuildHasher, B: Naming> SharedDesk<S, B> {
     pub fn of(opened: Opened<Entry>, number: u64, desk: Desk<S>) -> Self
         requires table { opened ≡ B.table_of number }
         requires opening { StandsAt (B.opening number) [] desk }
+        requires size { desk.journal.capacity ≡ B.journal_size number }
         ensures { result ≡ number }
     {
         SharedDesk {
@@ -69,10 +70,11 @@ impl<S: BuildHasher, B: Naming> SharedDesk<S, B> {
 
     /// A pass for one more caller, with no receipt. It is no event, and allocates nothing.
     ///
-    /// Refused only as `Worn`, which comes once 2^64 - 1 passes were given out; no clause outside the crate says so.
+    /// Refused only as `Worn` (81), at a point of the backend's history at which 2^64 - 1 passes were given out.
     pub fn enter<R: Wait>(&self, rt: &R) -> Result<Pass<Entry, B>, Refused>
         ensures pass { IfOk result (λ pass. pass ≡ new_pass self.now) }
         ensures refused { IfErr result (λ refused. refused ≡ Refused.Worn) }
+        ensures worn { OnErr result (IsOutOfPasses (B.opening self.now) self.now) }
     {
         self.hold(rt).enter()
     }
@@ -260,8 +262,8 @@ impl<S: BuildHasher, B: Naming> SharedDesk<S, B> {
         copy.rows(alloc)
     }
 
-    /// A copy of the journal at one moment. All receipts of the pass are of events before that moment. It is no event, and the pass
-    /// gets no receipt.
+    /// A copy of all that the journal keeps at one moment. All receipts of the pass are of events before that moment. It is no event,
+    /// and the pass gets no receipt.
     ///
     /// The others wait while each entry is copied. The only error is out of memory.
     pub fn entries<R: Wait>(
@@ -275,7 +277,7 @@ impl<S: BuildHasher, B: Naming> SharedDesk<S, B> {
             (λ copy. AtAPoint
             (B.opening self.now)
             pass.old.receipts
-            (λ desk. IsCopyOf desk.journal copy)) }
+            (λ desk. IsCopyOf (B.journal_size self.now) desk.journal copy)) }
         ensures pass { pass.new ≡ pass.old }
     {
         let mut held = self.hold(rt);
@@ -317,6 +319,7 @@ impl<S: BuildHasher + Drop, B: Naming> SharedDesk<S, B> {
     pub fn close(self, passes: Vec<Pass<Entry, B>>) -> Result<Closing, StillOut<S, B>>
         requires { AreOf self passes.items }
         ensures closes { IfOk result (λ closing. Closes (B.opening self) passes.items closing) }
+        ensures size { IfOk result (λ closing. closing.journal.capacity ≡ B.journal_size self) }
         ensures fault { IfErr result
             (λ out. out.desk.keeper.number ≡ self
             → fault_of out.desk (vec_len passes) ≡ Some out.fault) }

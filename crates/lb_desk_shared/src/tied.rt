@@ -2,7 +2,7 @@ ghost use Rattle.std.specs.Prelude.{◌≡◌, ◌+◌, ◌<◌, ◌^◌, ◌≤
 ghost use Rattle.lb_desk_ports.specs.Calls.{entry};
 ghost use Rattle.lb_desk_shared.specs.Calls.{AddsPlan, IsStepAt};
 ghost use Rattle.lb_desk_shared.specs.Closing.{Closes, fault_of};
-ghost use Rattle.lb_desk_shared.specs.Desks.{AtAPoint, IsReached};
+ghost use Rattle.lb_desk_shared.specs.Desks.{AtAPoint, IsOutOfPasses, IsReached};
 ghost use Rattle.lb_desk_step.specs.Desk.{StandsAt, Takes, is_worn_for, may_take_memory};
 ghost use Rattle.lb_desk_step.specs.Planning.{TakesPlan, is_worn_for_two};
 ghost use Rattle.lb_desk_tie.specs.Receipts.{AreOf, new_keeper, new_pass, with_entry, with_pass, with_receipt};
@@ -29,6 +29,7 @@ pub struct TiedDesk<S: BuildHasher, B: Naming> {
 }
 
 impl<S: BuildHasher, B: Naming> Model for TiedDesk<S, B> {
+    ghost use Rattle.std.specs.Prelude.{◌≡◌};
     ghost use Rattle.lb_desk_shared.specs.Desks.{TiedView};
     ghost use Rattle.lb_desk_step.specs.Desk.{StandsAt};
 
@@ -36,7 +37,8 @@ impl<S: BuildHasher, B: Naming> Model for TiedDesk<S, B> {
 
     ghost view = { λ t. record { desk = t.desk; keeper = t.keeper } };
 
-    ghost invariant = { λ t. StandsAt (B.opening t.keeper.number) t.keeper.history t.desk };
+    ghost invariant = { λ t. StandsAt (B.opening t.keeper.number) t.keeper.history t.desk
+        × (t.desk.journal.capacity ≡ B.journal_size t.keeper.number) };
 }
 
 impl<S: BuildHasher, B: Naming> TiedDesk<S, B> {
@@ -44,6 +46,7 @@ impl<S: BuildHasher, B: Naming> TiedDesk<S, B> {
     pub(crate) fn of(opened: Opened<Entry>, number: u64, desk: Desk<S>) -> Self
         requires table { opened ≡ B.table_of number }
         requires opening { StandsAt (B.opening number) [] desk }
+        requires size { desk.journal.capacity ≡ B.journal_size number }
         ensures desk { result.desk ≡ desk }
         ensures keeper { result.keeper ≡ new_keeper number }
     {
@@ -68,6 +71,7 @@ impl<S: BuildHasher, B: Naming> TiedDesk<S, B> {
         ensures worn { IsErr result ↔ (2 ^ 64 ≤ self.old.keeper.passes + 1) }
         ensures refused { IfErr result (λ refused. refused ≡ Refused.Worn) }
         ensures err { OnErr result (self.new ≡ self.old) }
+        ensures worn_at { OnErr result (IsOutOfPasses (B.opening self.old.keeper.number) self.old.keeper.number) }
     {
         if self.keeper.out() == u64::MAX {
             return Err(Refused::Worn);
@@ -160,11 +164,13 @@ impl<S: BuildHasher, B: Naming> TiedDesk<S, B> {
         Ok(taken)
     }
 
-    /// Changes nothing: what it says is that all receipts of the pass are in the history that the desk stands at the end of.
+    /// Changes nothing: what it says is that all receipts of the pass are in the history that the desk stands at the end of, and that
+    /// the journal has the size with which it opened.
     pub(crate) fn confirm(&mut self, pass: &mut Pass<Entry, B>)
         requires { pass.old.keeper ≡ self.old.keeper.number }
         ensures same { (self.new ≡ self.old) × (pass.new ≡ pass.old) }
         ensures reached { IsReached (B.opening self.old.keeper.number) pass.old.receipts self.old.desk }
+        ensures size { self.old.desk.journal.capacity ≡ B.journal_size self.old.keeper.number }
     {
         self.keeper.confirm(pass);
     }
@@ -203,7 +209,8 @@ impl<S: BuildHasher + Drop, B: Naming> TiedDesk<S, B> {
     pub(crate) fn close(self, passes: Vec<Pass<Entry, B>>) -> Closing
         requires own { AreOf self.keeper.number passes.items }
         requires may { fault_of self (vec_len passes) ≡ None }
-        ensures { Closes (B.opening self.keeper.number) passes.items result }
+        ensures closes { Closes (B.opening self.keeper.number) passes.items result }
+        ensures size { result.journal.capacity ≡ B.journal_size self.keeper.number }
     {
         self.desk.stands_at_a_log();
         let TiedDesk { desk, keeper } = self;

@@ -1,7 +1,7 @@
 //! Calls of a seat as a port, as a mover and as a steer.
 ghost use Rattle.std.specs.Prelude.{◌≡◌};
 
-use crate::desks::shared;
+use crate::desks::{JOURNAL, shared};
 use crate::farms::{A, B, request, server, two_servers};
 use crate::kinds::{Kind, are};
 use lb_desk_evacuate::{Evacuation, evacuate};
@@ -66,6 +66,7 @@ fn calls<S: BuildHasher + Drop, N: Naming, R: Wait + Abort>(
 ) -> Result<(), Fail>
     requires table { opened ≡ N.table_of 0 }
     requires opening { backend.now ≡ N.opening 0 }
+    requires size { N.journal_size 0 ≡ JOURNAL }
 {
     let desk = shared::<S, N>(alloc, opened, backend, hasher)?;
     let pass = take_a_seat(rt, alloc, &desk)?;

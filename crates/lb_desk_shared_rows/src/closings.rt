@@ -2,6 +2,7 @@
 ghost use Rattle.std.specs.Prelude.{◌≡◌};
 ghost use Rattle.lb_desk_tie.specs.Receipts.{AreOf};
 
+use crate::desks::JOURNAL;
 use crate::thread_calls::request_once;
 use crate::thread_farms::{Hasher, desk_of, farm};
 use lb_desk_model::{Backend, Entry, ServedAs};
@@ -53,6 +54,7 @@ fn close_thrice<B: Naming, R: Wait + Abort>(
 ) -> Result<(), Fail>
     requires table { opened ≡ B.table_of 0 }
     requires opening { B.opening 0 ≡ backend.now }
+    requires size { B.journal_size 0 ≡ JOURNAL }
 {
     let desk = desk_of::<B>(alloc, opened, 0, backend)?;
     let mut pass = desk.enter(rt)?;

@@ -9,7 +9,7 @@ use std::alloc::{AllocError, Global};
 use std::hash::BuildHasher;
 
 /// Its journal has room for more entries than any test makes.
-const JOURNAL: u32 = 1000;
+pub(crate) const JOURNAL: u32 = 1000;
 
 /// The desk of number 0.
 pub(crate) fn shared<S: BuildHasher + Drop, B: Naming>(
@@ -20,6 +20,7 @@ pub(crate) fn shared<S: BuildHasher + Drop, B: Naming>(
 ) -> Result<SharedDesk<S, B>, AllocError>
     requires table { opened ≡ B.table_of 0 }
     requires opening { backend.now ≡ B.opening 0 }
+    requires size { B.journal_size 0 ≡ JOURNAL }
     ensures { IfOk result (λ desk. desk ≡ 0) }
 {
     let desk = Desk::open(alloc, backend, JOURNAL, hasher)?;

@@ -1,7 +1,7 @@
 //! A planner and clients in two threads: a new pin comes in wherever a plan is made and not installed yet.
 ghost use Rattle.std.specs.Prelude.{◌≡◌};
 
-use crate::desks::shared;
+use crate::desks::{JOURNAL, shared};
 use crate::farms::{request, two_servers};
 use crate::kinds::{Kind, are};
 use lb_desk_evacuate::{Evacuation, evacuate};
@@ -140,6 +140,7 @@ fn meet<N: Naming + Send + Sync, R: Threads + Wait + Clock + Abort + Sync>(
 ) -> Result<(), Fail>
     requires table { opened ≡ N.table_of 0 }
     requires opening { backend.now ≡ N.opening 0 }
+    requires size { N.journal_size 0 ≡ JOURNAL }
 {
     let desk = shared::<Hasher, N>(alloc, opened, backend, Hasher::new())?;
     let meeting = Meeting::new();

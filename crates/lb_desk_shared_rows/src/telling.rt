@@ -1,7 +1,7 @@
 //! A planner that is notified, while traffic goes on.
 ghost use Rattle.std.specs.Prelude.{◌≡◌};
 
-use crate::desks::shared;
+use crate::desks::{JOURNAL, shared};
 use crate::farms::{A, request, server, two_servers};
 use crate::kinds::{Kind, are};
 use lb_desk_model::{Backend, Entry};
@@ -115,6 +115,7 @@ fn tell<S: BuildHasher + Drop, N: Naming, R: Wait + Abort>(
 ) -> Result<(), Fail>
     requires table { opened ≡ N.table_of 0 }
     requires opening { backend.now ≡ N.opening 0 }
+    requires size { N.journal_size 0 ≡ JOURNAL }
 {
     let desk = shared::<S, N>(alloc, opened, backend, hasher)?;
     plan_at(rt, alloc, &desk, row)

@@ -2,6 +2,7 @@
 ghost use Rattle.std.specs.Prelude.{◌≡◌, Ok, IfOk};
 ghost use Rattle.lb_types.specs.Names.{name_of};
 
+use crate::desks::JOURNAL;
 use lb_desk_model::{Backend, BackendServer, Entry};
 use lb_desk_shared::{Naming, SharedDesk};
 use lb_desk_step::Desk;
@@ -47,7 +48,7 @@ fn named(name: &[u8]) -> Result<BackendServer, Fail>
     })
 }
 
-/// The desk of this number, whose journal keeps a thousand entries.
+/// The desk of this number.
 pub(crate) fn desk_of<B: Naming>(
     alloc: Global,
     opened: Opened<Entry>,
@@ -56,9 +57,10 @@ pub(crate) fn desk_of<B: Naming>(
 ) -> Result<SharedDesk<Hasher, B>, Fail>
     requires table { opened ≡ B.table_of number }
     requires opening { B.opening number ≡ backend.now }
+    requires size { B.journal_size number ≡ JOURNAL }
     ensures { IfOk result (λ desk. desk ≡ number) }
 {
     let hasher = BuildHasherDefault::<FoldHasher>::new();
-    let desk = Desk::open(alloc, backend, 1000, hasher)?;
+    let desk = Desk::open(alloc, backend, JOURNAL, hasher)?;
     Ok(SharedDesk::of(opened, number, desk))
 }

@@ -2,6 +2,7 @@
 ghost use Rattle.std.specs.Prelude.{◌≡◌};
 
 use crate::closings::{close_with, judge};
+use crate::desks::JOURNAL;
 use crate::thread_calls::{day, request_once};
 use crate::thread_farms::{Hasher, desk_of, farm};
 use lb_desk_model::{Backend, Entry, ServedAs};
@@ -61,6 +62,8 @@ fn share_two<B: Naming + Send + Sync, R: Threads + Wait + Abort + Sync>(
     requires two { two ≡ B.table_of 2 }
     requires opening_one { B.opening 1 ≡ backend.now }
     requires opening_two { B.opening 2 ≡ backend.now }
+    requires size_one { B.journal_size 1 ≡ JOURNAL }
+    requires size_two { B.journal_size 2 ≡ JOURNAL }
 {
     let desks = Desks::<B> {
         one: desk_of(alloc, one, 1, backend)?,
@@ -94,6 +97,7 @@ fn keep_for_another<B: Naming + Send + Sync, R: Threads + Wait + Abort + Sync>(
 ) -> Result<(), Fail>
     requires table { opened ≡ B.table_of 0 }
     requires opening { B.opening 0 ≡ backend.now }
+    requires size { B.journal_size 0 ≡ JOURNAL }
 {
     let desk = desk_of::<B>(alloc, opened, 0, backend)?;
     let (first, _) = join(rt, || serve(rt, alloc, &desk), || ());

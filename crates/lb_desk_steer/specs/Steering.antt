@@ -1,6 +1,6 @@
 -- What an operator's call makes: an event of the machine in `lb_desk_model`, with its reply. And of which moment in a backend's
 -- history a copy is. Our own words.
-use Rattle.std.specs.Prelude.{◌≡◌, ◌⊎◌, ℕ, ◌+◌, List, [], ◌∷◌, ◌++◌, length, drop, Result, Ok, Err}
+use Rattle.std.specs.Prelude.{◌≡◌, ◌⊎◌, ℕ, List, [], ◌∷◌, ◌++◌, Result, Ok, Err}
 use Rattle.pin_set.specs.declared.table_pin.TablePin.{TablePin}
 use Rattle.server_state.specs.declared.change.Change.{Change}
 use Rattle.lb_desk_model.specs.declared.entry.Entry.{Entry}
@@ -13,6 +13,13 @@ use Rattle.lb_desk_model.specs.States.{State, opening}
 use Rattle.lb_desk_ports.specs.declared.refused.Refused.{Refused}
 use Rattle.lb_desk_ports.specs.Calls.{entry}
 use Rattle.lb_desk_ports.specs.Ports.{IsExpiry}
+use Rattle.lb_desk_tail.specs.Tail.{IsTailOf}
+
+-- a backend as it opened
+pub record OpenedBackend : Type 0 where
+  pub parts : BackendParts
+  -- how many entries its journal keeps at most
+  pub journal_size : ℕ
 
 -- the entries that commanding the change adds
 abbrev pub commanding_entries : Change → Result Reply Refused → List Entry
@@ -42,10 +49,10 @@ pub record Moment (backend : BackendParts) (made : List Entry) : Type 0 where
   pub has : AreIn made history
 
 -- these are the pins at such a moment
-abbrev pub ArePinsAfter : BackendParts → List Entry → List TablePin → Type 0
-ArePinsAfter backend made pins = (at : Moment backend made) × (pins ≡ at.state.pins)
+abbrev pub ArePinsAfter : OpenedBackend → List Entry → List TablePin → Type 0
+ArePinsAfter backend made pins = (at : Moment backend.parts made) × (pins ≡ at.state.pins)
 
--- these entries are the end of the history at such a moment, and so many are before them
-abbrev pub IsJournalAfter : BackendParts → List Entry → ℕ → List Entry → Type 0
+-- these entries are all that the journal keeps of the history at such a moment, and so many are before them
+abbrev pub IsJournalAfter : OpenedBackend → List Entry → ℕ → List Entry → Type 0
 IsJournalAfter backend made first entries =
-    (at : Moment backend made) × (entries ≡ drop first at.history) × (first + length entries ≡ length at.history)
+    (at : Moment backend.parts made) × IsTailOf at.history (record { capacity = backend.journal_size; first = first; entries = entries })

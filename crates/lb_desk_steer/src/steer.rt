@@ -1,8 +1,7 @@
 ghost use Rattle.std.specs.Prelude.{◌≡◌, ◌++◌, IfOk};
 ghost use Rattle.lb_desk_model.specs.declared.event.Event.TheVariants.{Set, Clear};
-ghost use Rattle.lb_desk_model.specs.Backends.{BackendParts};
 ghost use Rattle.lb_desk_ports.specs.Calls.{after_call};
-ghost use Rattle.lb_desk_steer.specs.Steering.{AddsAt, ArePinsAfter, IsJournalAfter, commanding_entries};
+ghost use Rattle.lb_desk_steer.specs.Steering.{AddsAt, ArePinsAfter, IsJournalAfter, OpenedBackend, commanding_entries};
 
 use crate::JournalCopy;
 use lb_desk_model::{Reply, SetPin};
@@ -16,7 +15,7 @@ use std::alloc::{AllocError, Global};
 /// makes no event, except for the first of the two of `set_pin` and of `clear_pin`.
 pub trait Steer<R>: Mover<R> {
     /// The backend, as it opened.
-    ghost backend: { Self → BackendParts };
+    ghost backend: { Self → OpenedBackend };
 
     /// Makes the change to a server, and answers `Reply::Done`. Or it changes nothing and answers `Reply::Refused`: 10, there is no
     /// such server; 12, its health is set and it isn't checked; 11, the number is out of range.
@@ -55,7 +54,7 @@ pub trait Steer<R>: Mover<R> {
         ensures planned_now { Self.planned_now self.new ≡ Self.planned_now self.old }
         ensures backend { backend self.new ≡ backend self.old };
 
-    /// A copy of what the backend's journal keeps now, after all events of this `Steer`. It is no event.
+    /// A copy of all that the backend's journal keeps now, after all events of this `Steer`. It is no event.
     ///
     /// It costs one walk over the entries while no event is taken, and a copy of each key and of each list of rules. Refused only
     /// when out of memory.

@@ -1,5 +1,5 @@
 //! Many threads at two desks, which are then closed.
-ghost use Rattle.std.specs.Prelude.{◌≡◌, IfOk};
+ghost use Rattle.std.specs.Prelude.{◌≡◌, ◌<◌, IfOk};
 ghost use Rattle.lb_desk_tie.specs.Receipts.{AreOf};
 
 use crate::events::Events;
@@ -78,7 +78,26 @@ pub fn try_threads<R: Threads + Wait + RandomSource + Sync>(
     let one = Opened::new(alloc)?;
     let two = Opened::new(alloc)?;
     let hasher = RandomState::new(rt)?;
-    share::<Brand, R>(rt, alloc, (one, two), &backend, hasher, threads, calls)
+    let journal = journal_size(threads, calls);
+    share::<Brand, R>(
+        rt,
+        alloc,
+        (one, two),
+        &backend,
+        hasher,
+        journal,
+        threads,
+        calls,
+    )
+}
+
+/// How many entries a journal has to keep for so many calls of each thread.
+fn journal_size(threads: usize, calls: u64) -> u32
+    ensures { 0 < result }
+{
+    let each = calls.saturating_add(MORE).saturating_mul(ENTRIES);
+    let all = (threads as u64).saturating_mul(each);
+    ((all.min(MOST_ENTRIES) % (1 << 32)) as u32).max(1)
 }
 
 /// The same, with desks whose name is picked.
@@ -88,17 +107,18 @@ fn share<B: Naming + Send + Sync, R: Threads + Wait + Sync>(
     opened: (Opened<Entry>, Opened<Entry>),
     backend: &Backend,
     hasher: RandomState,
+    journal: u32,
     threads: usize,
     calls: u64,
 ) -> Result<ThreadsTried>
+    requires journal { 0 < journal }
     requires one { opened.0 ≡ B.table_of 1 }
     requires two { opened.1 ≡ B.table_of 2 }
     requires opening_one { B.opening 1 ≡ backend.now }
     requires opening_two { B.opening 2 ≡ backend.now }
+    requires size_one { B.journal_size 1 ≡ journal }
+    requires size_two { B.journal_size 2 ≡ journal }
 {
-    let each = calls.saturating_add(MORE).saturating_mul(ENTRIES);
-    let all = (threads as u64).saturating_mul(each);
-    let journal = (all.min(MOST_ENTRIES) % (1 << 32)) as u32;
     let desks = Desks::<B> {
         one: desk_of(alloc, opened.0, 1, backend, hasher, journal)?,
         two: desk_of(alloc, opened.1, 2, backend, hasher, journal)?,
@@ -121,11 +141,13 @@ fn desk_of<B: Naming>(
     hasher: RandomState,
     journal: u32,
 ) -> Result<SharedDesk<RandomState, B>>
+    requires journal { 0 < journal }
     requires table { opened ≡ B.table_of number }
     requires opening { B.opening number ≡ backend.now }
+    requires size { B.journal_size number ≡ journal }
     ensures { IfOk result (λ desk. desk ≡ number) }
 {
-    let desk = Desk::open(alloc, backend, journal.max(1), hasher)?;
+    let desk = Desk::open(alloc, backend, journal, hasher)?;
     Ok(SharedDesk::of(opened, number, desk))
 }
 

@@ -6,46 +6,51 @@ use Rattle.lb_desk_backend.specs.Configured.{IsBackendOf}
 use Rattle.lb_desk_model.specs.Backends.{BackendParts}
 use Rattle.lb_run_desks.specs.NewDeskView.{NewDeskView}
 use Rattle.lb_run_desks.specs.NewDesks.{Open, numbers, numbers_from}
-use Rattle.lb_run.specs.Runs.{AllClosed, AreOpened, ClosedAs}
+use Rattle.lb_run.specs.Runs.{AllClosed, AreOpened, ClosedAs, IsOpened}
 
-opened_from : (opening : ℕ → BackendParts) (n : ℕ) (configs : List BackendView) (desks : List NewDeskView)
-    → ((place : ℕ) (desk : NewDeskView) → slice_get desks place ≡ Some desk → desk.backend ≡ opening (n + place))
-    → Open configs desks → AreOpened opening configs (numbers_from n desks)
-opened_from opening n [] [] named opens = tt
-opened_from opening n [] (d ∷ ds) named opens = absurd opens
-opened_from opening n (c ∷ cs) [] named opens = absurd opens
-opened_from opening n (c ∷ cs) (d ∷ ds) named opens =
-    let here : n + 0 ≡ n = omega arith in
-    let first : d.backend ≡ opening n = subst (λ (m : ℕ). d.backend ≡ opening m) here (named 0 d refl) in (
-      subst (λ (b : BackendParts). IsBackendOf c b) first opens.0.0,
-      opened_from opening (n + 1) cs ds (λ place desk at.
-          let there : n + suc place ≡ (n + 1) + place = omega arith in
-          subst (λ (m : ℕ). desk.backend ≡ opening m) there (named (suc place) desk at)) opens.1,
-    )
+module _ (opening : ℕ → BackendParts) (sizes : ℕ → ℕ) where
+  -- the names say that of a desk
+  abbrev IsNamed : ℕ → NewDeskView → Type 0
+  IsNamed place desk = (desk.backend ≡ opening place) × (desk.journal ≡ sizes place)
 
--- desks that are named by their places opened as what is configured there
-pub all_opened : (opening : ℕ → BackendParts) (configs : List BackendView) (desks : List NewDeskView)
-    → ((place : ℕ) (desk : NewDeskView) → slice_get desks place ≡ Some desk → desk.backend ≡ opening place)
-    → Open configs desks → AreOpened opening configs (numbers desks)
-all_opened opening configs desks named opens =
-    opened_from opening 0 configs desks (λ place desk at.
-    let same : place ≡ 0 + place = omega arith in
-    subst (λ (m : ℕ). desk.backend ≡ opening m) same (named place desk at)) opens
+  opened_from : (n : ℕ) (configs : List BackendView) (desks : List NewDeskView)
+      → ((place : ℕ) (desk : NewDeskView) → slice_get desks place ≡ Some desk → IsNamed (n + place) desk)
+      → Open configs desks → AreOpened opening sizes configs (numbers_from n desks)
+  opened_from n [] [] named opens = tt
+  opened_from n [] (d ∷ ds) named opens = absurd opens
+  opened_from n (c ∷ cs) [] named opens = absurd opens
+  opened_from n (c ∷ cs) (d ∷ ds) named opens =
+      let here : n + 0 ≡ n = omega arith in
+      let first : IsNamed n d = subst (λ (m : ℕ). IsNamed m d) here (named 0 d refl) in (
+        (subst (λ (b : BackendParts). IsBackendOf c b) first.0 opens.0.0, sym first.1 ∙ opens.0.1),
+        opened_from (n + 1) cs ds (λ place desk at.
+            let there : n + suc place ≡ (n + 1) + place = omega arith in
+            subst (λ (m : ℕ). IsNamed m desk) there (named (suc place) desk at)) opens.1,
+      )
 
--- there are as many desks as backends
-pub as_many : (opening : ℕ → BackendParts) (configs : List BackendView) (desks : List ℕ) → AreOpened opening configs desks → length desks ≡ length configs
-as_many opening [] [] are = refl
-as_many opening [] (d ∷ ds) are = absurd are
-as_many opening (c ∷ cs) [] are = absurd are
-as_many opening (c ∷ cs) (d ∷ ds) are = ap suc (as_many opening cs ds are.1)
+  -- desks that are named by their places opened as what is configured there
+  pub all_opened : (configs : List BackendView) (desks : List NewDeskView)
+      → ((place : ℕ) (desk : NewDeskView) → slice_get desks place ≡ Some desk → IsNamed place desk)
+      → Open configs desks → AreOpened opening sizes configs (numbers desks)
+  all_opened configs desks named opens =
+      opened_from 0 configs desks (λ place desk at.
+      let same : place ≡ 0 + place = omega arith in
+      subst (λ (m : ℕ). IsNamed m desk) same (named place desk at)) opens
 
--- the next desk, of which some are closed
-pub next_opened : (opening : ℕ → BackendParts) (configs : List BackendView) (done later : List ℕ) (desk : ℕ) (config : BackendView)
-    → AreOpened opening configs (done ++ desk ∷ later) → IsBackendOf (get_or configs (length done) config) (opening desk)
-next_opened opening [] [] later desk config are = absurd are
-next_opened opening (c ∷ cs) [] later desk config are = are.0
-next_opened opening [] (d ∷ ds) later desk config are = absurd are
-next_opened opening (c ∷ cs) (d ∷ ds) later desk config are = next_opened opening cs ds later desk config are.1
+  -- there are as many desks as backends
+  pub as_many : (configs : List BackendView) (desks : List ℕ) → AreOpened opening sizes configs desks → length desks ≡ length configs
+  as_many [] [] are = refl
+  as_many [] (d ∷ ds) are = absurd are
+  as_many (c ∷ cs) [] are = absurd are
+  as_many (c ∷ cs) (d ∷ ds) are = ap suc (as_many cs ds are.1)
+
+  -- the next desk, of which some are closed
+  pub next_opened : (configs : List BackendView) (done later : List ℕ) (desk : ℕ) (config : BackendView)
+      → AreOpened opening sizes configs (done ++ desk ∷ later) → IsOpened opening sizes (get_or configs (length done) config) desk
+  next_opened [] [] later desk config are = absurd are
+  next_opened (c ∷ cs) [] later desk config are = are.0
+  next_opened [] (d ∷ ds) later desk config are = absurd are
+  next_opened (c ∷ cs) (d ∷ ds) later desk config are = next_opened cs ds later desk config are.1
 
 -- one backend more is closed
 closed_next : (i : ℕ) (configs : List BackendView) (config : BackendView) (text line : List ℕ)
@@ -90,14 +95,14 @@ within_all done rest all later desk place is next here =
     omega (arith, there, here)
 
 -- it opened as what is configured there
-pub next_configured : (opening : ℕ → BackendParts) (configs backends : List BackendView) (done rest all later : List ℕ) (desk place : ℕ)
-    (config : BackendView) → AreOpened opening configs all → done ++ rest ≡ all → rest ≡ desk ∷ later → place ≡ length done
-    → backends ≡ configs → config ≡ get_or backends place config → IsBackendOf config (opening desk)
-next_configured opening configs backends done rest all later desk place config are is next here same at =
+pub next_configured : (opening : ℕ → BackendParts) (sizes : ℕ → ℕ) (configs backends : List BackendView) (done rest all later : List ℕ)
+    (desk place : ℕ) (config : BackendView) → AreOpened opening sizes configs all → done ++ rest ≡ all → rest ≡ desk ∷ later → place ≡ length done
+    → backends ≡ configs → config ≡ get_or backends place config → IsOpened opening sizes config desk
+next_configured opening sizes configs backends done rest all later desk place config are is next here same at =
     let there : config ≡ get_or configs (length done) config =
     at ∙ ap (λ (l : List BackendView). get_or l place config) same ∙ ap (λ (n : ℕ). get_or configs n config) here in
-    let opened = subst (λ (l : List ℕ). AreOpened opening configs l) (sym (whole done rest all later desk is next)) are in
-    subst (λ (b : BackendView). IsBackendOf b (opening desk)) (sym there) (next_opened opening configs done later desk config opened)
+    let opened = subst (λ (l : List ℕ). AreOpened opening sizes configs l) (sym (whole done rest all later desk is next)) are in
+    subst (λ (b : BackendView). IsOpened opening sizes b desk) (sym there) (next_opened opening sizes configs done later desk config opened)
 
 take_whole : (configs : List BackendView) → take (length configs) configs ≡ configs
 take_whole [] = refl

@@ -30,9 +30,13 @@ AllClosed (config ∷ configs) text = (line others : List ℕ) × ClosedAs confi
 abbrev pub EndsClosed : List BackendView → Option (List ℕ) → Option (List ℕ) → Type 0
 EndsClosed configs old new = (text : List ℕ) × AllClosed configs text × Appends old new text
 
--- each of these desks opened as the backend that is configured at its place
-abbrev pub AreOpened : (ℕ → BackendParts) → List BackendView → List ℕ → Type 0
-AreOpened opening [] [] = Unit {0}
-AreOpened opening (config ∷ configs) (desk ∷ desks) = IsBackendOf config (opening desk) × AreOpened opening configs desks
-AreOpened opening [] (desk ∷ desks) = ⊥
-AreOpened opening (config ∷ configs) [] = ⊥
+-- the desk opened as the backend that is configured, with a journal of the size that is configured
+abbrev pub IsOpened : (ℕ → BackendParts) → (ℕ → ℕ) → BackendView → ℕ → Type 0
+IsOpened opening sizes config desk = IsBackendOf config (opening desk) × (sizes desk ≡ config.journal)
+
+-- each of these desks opened as is configured at its place
+abbrev pub AreOpened : (ℕ → BackendParts) → (ℕ → ℕ) → List BackendView → List ℕ → Type 0
+AreOpened opening sizes [] [] = Unit {0}
+AreOpened opening sizes (config ∷ configs) (desk ∷ desks) = IsOpened opening sizes config desk × AreOpened opening sizes configs desks
+AreOpened opening sizes [] (desk ∷ desks) = ⊥
+AreOpened opening sizes (config ∷ configs) [] = ⊥

@@ -1,7 +1,6 @@
 ghost use Rattle.std.specs.Prelude.{IfOk, OnOk};
 ghost use Rattle.std.specs.Io.KnownBytes.{Appends};
-ghost use Rattle.lb_desk_backend.specs.Configured.{IsBackendOf};
-ghost use Rattle.lb_run.specs.Runs.{AreOpened, ClosedAs, EndsClosed};
+ghost use Rattle.lb_run.specs.Runs.{AreOpened, ClosedAs, EndsClosed, IsOpened};
 
 use crate::RunFault;
 use lb_config::{BackendConfig, Config};
@@ -21,7 +20,7 @@ pub(crate) fn close_all<B: Naming, W: Write>(
     passes: Vec<Pass<Entry, B>>,
     out: &mut W,
 ) -> Result<(), RunFault>
-    requires { AreOpened B.opening config.now.backends desks.items }
+    requires { AreOpened B.opening B.journal_size config.now.backends desks.items }
     ensures { OnOk result (EndsClosed config.now.backends (W.contents out.old) (W.contents out.new)) }
 {
     let mut passes = passes;
@@ -41,14 +40,13 @@ fn close_one<B: Naming>(
     desk: SharedDesk<RandomState, B>,
     passes: &mut Vec<Pass<Entry, B>>,
 ) -> Result<Vec<u8>, RunFault>
-    requires { IsBackendOf backend.now (B.opening desk) }
+    requires { IsOpened B.opening B.journal_size backend.now desk }
     ensures { IfOk result (λ line. ClosedAs backend.now line.items) }
 {
-    match close_desk(alloc, desk, backend.journal(), passes)? {
+    match close_desk(alloc, desk, passes)? {
         ClosedDesk::Closed(closing) => {
             Ok(closed_line(alloc, backend.name().as_bytes(), &closing)?)
         }
-        ClosedDesk::Resized(_) => Err(RunFault::Resized),
         ClosedDesk::Open(fault) => Err(RunFault::StillOpen(fault)),
     }
 }

@@ -18,9 +18,6 @@ pub enum RunFault {
     /// A desk can't be closed. No run is known that ends so.
     #[error("a backend can't be closed")]
     StillOpen(CloseFault),
-    /// A desk's journal had not the size that the configuration says. No run comes here.
-    #[error("a backend's journal has another size")]
-    Resized,
     /// What is printed at the end can't be written.
     #[error("the answer can't be written")]
     CannotWrite,

@@ -47,9 +47,7 @@ fn run_and_report<R: Host + Files, O: Write, E: Write>(
     match run_config(rt, alloc, config, out) {
         Ok(()) => Ok(true),
         Err(RunFault::Bind(address)) => print_hindrance(err, &bind_line(alloc, &address)?),
-        Err(RunFault::StillOpen(_) | RunFault::Resized) => {
-            print_hindrance(err, b"a backend can't be closed\n")
-        }
+        Err(RunFault::StillOpen(_)) => print_hindrance(err, b"a backend can't be closed\n"),
         Err(RunFault::Memory) => Err(JobError::OutOfMemory),
         Err(RunFault::System) => Err(JobError::CannotRead),
         Err(RunFault::CannotWrite) => Err(JobError::CannotWrite),

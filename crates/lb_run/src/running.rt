@@ -72,7 +72,7 @@ fn run_named<R: Host + Files, B: Naming + Send + Sync, G: SharedGate<R>, W: Writ
     gate: G,
     out: &mut W,
 ) -> Result<(), RunFault>
-    requires names { AreNamed B.table_of B.opening desks.items }
+    requires names { AreNamed B.table_of B.opening B.journal_size desks.items }
     requires opened { Open config.now.backends desks.items }
     ensures closed { OnOk result (EndsClosed config.now.backends (W.contents out.old) (W.contents out.new)) }
 {

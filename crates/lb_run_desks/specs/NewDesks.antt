@@ -19,10 +19,11 @@ Open (config ∷ configs) (desk ∷ desks) = OpensAs config desk × Open configs
 Open [] (desk ∷ desks) = ⊥
 Open (config ∷ configs) [] = ⊥
 
--- the name says of each place which table and which backend the desk has that stands there
-abbrev pub AreNamed : (ℕ → TableId) → (ℕ → BackendParts) → List NewDeskView → Type 0
-AreNamed tables backends desks =
-    (place : ℕ) (desk : NewDeskView) → slice_get desks place ≡ Some desk → (desk.table ≡ tables place) × (desk.backend ≡ backends place)
+-- the name says of each place which table, which backend and which size of its journal the desk has that stands there
+abbrev pub AreNamed : (ℕ → TableId) → (ℕ → BackendParts) → (ℕ → ℕ) → List NewDeskView → Type 0
+AreNamed tables backends sizes desks =
+    (place : ℕ) (desk : NewDeskView) → slice_get desks place ≡ Some desk
+    → (desk.table ≡ tables place) × (desk.backend ≡ backends place) × (desk.journal ≡ sizes place)
 
 -- what such a name says of a place
 abbrev pub table_at : Option NewDeskView → TableId
@@ -32,6 +33,10 @@ table_at (Some desk) = desk.table
 abbrev pub backend_at : Option NewDeskView → BackendParts
 backend_at None = no_backend
 backend_at (Some desk) = desk.backend
+
+abbrev pub journal_size_at : Option NewDeskView → ℕ
+journal_size_at None = 0
+journal_size_at (Some desk) = desk.journal
 
 -- the places of a list's elements: 0, 1 and so on
 abbrev pub numbers_from : ℕ → List NewDeskView → List ℕ

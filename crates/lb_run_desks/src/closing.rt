@@ -13,34 +13,23 @@ use std::hash::BuildHasher;
 pub enum ClosedDesk {
     /// It is closed.
     Closed(Closing),
-    /// It is closed, and its journal had another size. No run comes here.
-    Resized(Closing),
     /// It can't be closed: a pass or a connection never came back.
     Open(CloseFault),
 }
 
-/// Closes the desk, whose journal has this size, with those of the passes that are its own; the others are left. The only error is
-/// out of memory.
+/// Closes the desk with those of the passes that are its own; the others are left. The only error is out of memory.
 ///
-/// It costs a look at each pass. That a desk which comes from under its lock has the journal that it opened with no type says, so the
-/// size is looked at.
+/// It costs a look at each pass.
 pub fn close_desk<S: BuildHasher + Drop, B: Naming>(
     alloc: Global,
     desk: SharedDesk<S, B>,
-    journal: u32,
     passes: &mut Vec<Pass<Entry, B>>,
 ) -> Result<ClosedDesk, AllocError>
-    ensures { IfOk result (IsClosed (B.opening desk) desk journal) }
+    ensures { IfOk result (IsClosed (B.opening desk) desk (B.journal_size desk)) }
 {
     let own = take_own(alloc, desk.number(), passes)?;
     Ok(match desk.close(own) {
-        Ok(closing) => {
-            if closing.journal.capacity() == journal as usize {
-                ClosedDesk::Closed(closing)
-            } else {
-                ClosedDesk::Resized(closing)
-            }
-        }
+        Ok(closing) => ClosedDesk::Closed(closing),
         Err(still_out) => ClosedDesk::Open(still_out.fault),
     })
 }

@@ -11,7 +11,7 @@ pub fn named_desks<S: BuildHasher + Drop, B: Naming>(
     alloc: Global,
     news: Vec<NewDesk<S>>,
 ) -> Result<Vec<SharedDesk<S, B>>, AllocError>
-    requires { AreNamed B.table_of B.opening news.items }
+    requires { AreNamed B.table_of B.opening B.journal_size news.items }
     ensures { IfOk result (λ desks. desks.items ≡ numbers news.items) }
 {
     let mut desks = Vec::with_capacity(alloc, news.len())?;

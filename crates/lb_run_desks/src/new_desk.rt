@@ -53,6 +53,7 @@ impl<S: BuildHasher> NewDesk<S> {
     pub(crate) fn named<B: Naming>(self, number: u64) -> SharedDesk<S, B>
         requires table { self.table ≡ B.table_of number }
         requires opening { self.backend ≡ B.opening number }
+        requires size { self.journal ≡ B.journal_size number }
         ensures { result ≡ number }
     {
         let NewDesk {

@@ -39,6 +39,7 @@ fn at_a_desk<S: BuildHasher + Drop, N: Naming, R: Wait + Abort>(
 ) -> Result<(), Fail>
     requires table { opened ≡ N.table_of 0 }
     requires opening { backend.now ≡ N.opening 0 }
+    requires size { N.journal_size 0 ≡ JOURNAL }
 {
     let desk = Desk::open(alloc, backend, JOURNAL, hasher)?;
     let desk = SharedDesk::<S, N>::of(opened, 0, desk);

@@ -8,7 +8,7 @@ use Rattle.lb_run.proofs.closing.close_all.Goals as goal
 
 pub bounds-backends-place : goal.bounds-backends-place
 bounds-backends-place g c =
-    let many = as_many g.B.Naming.opening c.args.config.now.backends c.args.desks.items c.requires in
+    let many = as_many g.B.Naming.opening g.B.Naming.journal_size c.args.config.now.backends c.args.desks.items c.requires in
     let inside = within_all c.loop-desk.yielded c.loop-desk.desk-iterator.rest.items c.args.desks.items c.next.new.self.rest.items c.in-Some.desk
     c.loop-desk.place c.loop-desk.invariant.2 (c.in-Some.ensures.steps.0) c.loop-desk.invariant.3 in
     subst (λ (l : List BackendView). c.loop-desk.place < length l) (sym c.backends.ensures.exact)
@@ -16,13 +16,13 @@ bounds-backends-place g c =
 
 pub close_one-requires : goal.close_one-requires
 close_one-requires g c =
-    next_configured g.B.Naming.opening c.args.config.now.backends c.backends.result.now c.loop-desk.yielded c.loop-desk.desk-iterator.rest.items
+    next_configured g.B.Naming.opening g.B.Naming.journal_size c.args.config.now.backends c.backends.result.now c.loop-desk.yielded c.loop-desk.desk-iterator.rest.items
     c.args.desks.items c.next.new.self.rest.items c.in-Some.desk c.loop-desk.place c.index-backends-place.result c.requires
     c.loop-desk.invariant.2 (c.in-Some.ensures.steps.0) c.loop-desk.invariant.3 c.backends.ensures.exact c.index-backends-place.is
 
 pub loop-desk-preserved : goal.loop-desk-preserved
 loop-desk-preserved g c =
-    let many = as_many g.B.Naming.opening c.args.config.now.backends c.args.desks.items c.requires in
+    let many = as_many g.B.Naming.opening g.B.Naming.journal_size c.args.config.now.backends c.args.desks.items c.requires in
     let inside = within_all c.loop-desk.yielded c.loop-desk.desk-iterator.rest.items c.args.desks.items c.next.new.self.rest.items c.in-Some.desk
     c.loop-desk.place c.loop-desk.invariant.2 (c.in-Some.ensures.steps.0) c.loop-desk.invariant.3 in
     let at = c.index-backends-place.is
@@ -48,7 +48,7 @@ returns g c =
     let none : length c.loop-desk.desk-iterator.rest.items ≡ 0 = omega (arith, c.loop-desk.desk-iterator.rest.ok.0, c.in-None.ensures.steps.0) in
     let all : c.loop-desk.yielded ≡ c.args.desks.items =
     all_done c.loop-desk.yielded c.loop-desk.desk-iterator.rest.items c.args.desks.items c.loop-desk.invariant.2 none in
-    let many = as_many g.B.Naming.opening c.args.config.now.backends c.args.desks.items c.requires in (
+    let many = as_many g.B.Naming.opening g.B.Naming.journal_size c.args.config.now.backends c.args.desks.items c.requires in (
       c.loop-desk.invariant.4.0,
       closed_whole c.args.config.now.backends c.loop-desk.invariant.4.0 c.loop-desk.place
           (c.loop-desk.invariant.3 ∙ ap (λ (l : List ℕ). length l) all ∙ many) c.loop-desk.invariant.4.1,

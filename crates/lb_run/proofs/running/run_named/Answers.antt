@@ -18,5 +18,6 @@ serve-requires-clause-order g c κs within =
 
 pub close_all-requires : goal.close_all-requires
 close_all-requires g c =
-    subst (λ (l : List ℕ). AreOpened g.B.Naming.opening c.args.config.now.backends l) (sym c.in_ok-desks.ensures)
-    (all_opened g.B.Naming.opening c.args.config.now.backends c.args.desks.items (λ place desk at. (c.requires.names place desk at).1) c.requires.opened)
+    subst (λ (l : List ℕ). AreOpened g.B.Naming.opening g.B.Naming.journal_size c.args.config.now.backends l) (sym c.in_ok-desks.ensures)
+    (all_opened g.B.Naming.opening g.B.Naming.journal_size c.args.config.now.backends c.args.desks.items
+    (λ place desk at. ((c.requires.names place desk at).1, (c.requires.names place desk at).2)) c.requires.opened)

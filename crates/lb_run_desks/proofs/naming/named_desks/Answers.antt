@@ -20,6 +20,14 @@ named-requires-clause-opening g c =
     (next_stands c.loop-new.yielded c.loop-new.new-iterator.rest.items c.args.news.items c.next.new.self.rest.items c.in-Some.new c.len-number.result
     c.loop-new.invariant.2 (c.in-Some.ensures.steps.0) here)).1
 
+pub named-requires-clause-size : goal.named-requires-clause-size
+named-requires-clause-size g c =
+    let here : c.len-number.result ≡ length c.loop-new.yielded =
+    c.len-number.ensures ∙ c.loop-new.invariant.3 in
+    (c.requires c.len-number.result c.in-Some.new
+    (next_stands c.loop-new.yielded c.loop-new.new-iterator.rest.items c.args.news.items c.next.new.self.rest.items c.in-Some.new c.len-number.result
+    c.loop-new.invariant.2 (c.in-Some.ensures.steps.0) here)).2
+
 pub loop-new-preserved : goal.loop-new-preserved
 loop-new-preserved g c =
     let here : c.len-number.result ≡ length c.loop-new.yielded =

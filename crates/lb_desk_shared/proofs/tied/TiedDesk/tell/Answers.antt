@@ -4,7 +4,7 @@ use Rattle.lb_desk_ports.specs.Calls.{entry}
 use Rattle.lb_desk_step.specs.Desk.{StandsAt}
 use Rattle.lb_desk_tail.specs.Tail.{TailView, leaving}
 use Rattle.lb_desk_tie.specs.Receipts.{KeeperView, with_entry}
-use Rattle.lb_desk_shared.proofs.Standing.{is_step, some_same}
+use Rattle.lb_desk_shared.proofs.Standing.{is_step, same_size, some_same}
 use Rattle.lb_desk_shared.proofs.tied.TiedDesk.tell.Goals as goal
 
 pub invariant_of-self-2 : goal.invariant_of-self-2
@@ -15,13 +15,16 @@ invariant_of-self-2 g c =
     let journal = p.desk.journal in
     let newest : c.in-Some.newest.now ≡ e =
     some_same c.in-Some.newest.now e (c.in-Some.ensures.newest (drop (leaving journal) journal.entries) e (ap (λ (t : TailView Entry). t.entries) (c.journal.ensures ∙ takes.journal))) in
-    subst (λ (k : KeeperView Entry). StandsAt (g.B.Naming.opening k.number) k.history c.advance.new.self)
+    let size : c.advance.new.self.journal.capacity ≡ g.B.Naming.journal_size p.keeper.number =
+    same_size p.desk c.advance.new.self c.args.event c.in-Ok.taken.reply takes ∙ c.self.invariant.1 in
+    subst (λ (k : KeeperView Entry). StandsAt (g.B.Naming.opening k.number) k.history c.advance.new.self
+    × (c.advance.new.self.journal.capacity ≡ g.B.Naming.journal_size k.number))
     (sym (c.record-number.ensures.keeper ∙ ap (with_entry p.keeper) newest))
-    (takes.log (g.B.Naming.opening p.keeper.number) p.keeper.history c.self.invariant)
+    (takes.log (g.B.Naming.opening p.keeper.number) p.keeper.history c.self.invariant.0, size)
 
 pub returns-clause-step : goal.returns-clause-step
 returns-clause-step g c =
     let p = c.self.inside in
     rw (← c.self.view_is) (is_step (g.B.Naming.opening p.keeper.number) p.keeper.history c.args.pass.now.receipts p.desk c.advance.new.self
     c.record-number.result c.args.event c.in-Ok.taken.reply
-    c.self.invariant c.record-number.ensures.sound c.in-Ok.ensures.takes c.record-number.ensures.number)
+    c.self.invariant.0 c.record-number.ensures.sound c.in-Ok.ensures.takes c.record-number.ensures.number)
