@@ -22,7 +22,7 @@ pub enum ScriptedOpening {
 pub struct PortScript<'a> {
     /// To each request for a server.
     pub asked: Asked,
-    /// To each pin that is to be set.
+    /// To each pin that is set.
     pub set: Pinning,
     /// To the requests for a connection, in turn. Those after the last are opened.
     pub openings: &'a [ScriptedOpening],
