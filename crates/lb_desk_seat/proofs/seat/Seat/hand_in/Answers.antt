@@ -1,4 +1,4 @@
-use Rattle.std.proofs.Common.{◌≡◌, subst}
+use Rattle.std.proofs.Common.{subst}
 use Rattle.dual_cert_plan.specs.Plans.{PlanParts}
 use Rattle.lb_desk_model.specs.declared.event.Event.TheVariants.{Install}
 use Rattle.lb_desk_shared.specs.Calls.{AddsStep}
