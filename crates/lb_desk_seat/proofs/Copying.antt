@@ -10,7 +10,7 @@ use Rattle.lb_desk_model.specs.Seen.{Seen}
 use Rattle.lb_desk_shared.specs.declared.journal_copy.JournalCopy.{JournalCopy}
 use Rattle.lb_desk_shared.specs.Calls.{entries_of}
 use Rattle.lb_desk_shared.specs.Desks.{AtAPoint, IsCopyOf}
-use Rattle.lb_desk_steer.specs.Steering.{AreIn, ArePinsAfter, IsJournalAfter, Moment, OpenedBackend}
+use Rattle.lb_desk_steer.specs.Steering.{AreIn, IsJournalAfter, Moment}
 use Rattle.lb_desk_tail.specs.Tail.{IsTailOf, TailView}
 use Rattle.lb_desk_tie.specs.Receipts.{Each, StandsIn, rises_from}
 
@@ -51,21 +51,21 @@ moment_of backend receipts point =
       has = are_in reached.history 0 receipts reached.stand reached.rise;
     }
 
-pub pins_after : (backend : OpenedBackend) (receipts : List (ℕ × Entry)) (pins : List TablePin)
-    → AtAPoint backend.parts receipts (λ desk. pins ≡ desk.shown.pins) → ArePinsAfter backend (entries_of receipts) pins
-pins_after backend receipts pins point =
-    (moment_of backend.parts receipts (point.0, point.1, tt), point.2 ∙ ap (λ (s : Seen). s.pins) (sym point.1.stands.reaches.is))
+pub pins_after : (parts : BackendParts) (receipts : List (ℕ × Entry)) (pins : List TablePin)
+    → AtAPoint parts receipts (λ desk. pins ≡ desk.shown.pins) → (at : Moment parts (entries_of receipts)) × (pins ≡ at.state.pins)
+pins_after parts receipts pins point =
+    (moment_of parts receipts (point.0, point.1, tt), point.2 ∙ ap (λ (s : Seen). s.pins) (sym point.1.stands.reaches.is))
 
-pub journal_after : (backend : OpenedBackend) (receipts : List (ℕ × Entry)) (copy : JournalCopy)
-    → AtAPoint backend.parts receipts (λ desk. IsCopyOf backend.journal_size desk.journal copy)
-    → IsJournalAfter backend (entries_of receipts) copy.first copy.entries.items
-journal_after backend receipts copy point =
+pub journal_after : (parts : BackendParts) (size : ℕ) (receipts : List (ℕ × Entry)) (copy : JournalCopy)
+    → AtAPoint parts receipts (λ desk. IsCopyOf size desk.journal copy)
+    → IsJournalAfter (record { parts = parts; journal_size = size }) (entries_of receipts) copy.first copy.entries.items
+journal_after parts size receipts copy point =
     let copied = point.2 in
-    let size : point.0.journal.capacity ≡ backend.journal_size = copied.capacity in
+    let capacity : point.0.journal.capacity ≡ size = copied.capacity in
     let first : copy.first ≡ point.0.journal.first = copied.first in
     let entries : copy.entries.items ≡ point.0.journal.entries = copied.entries in
-    let same : point.0.journal ≡ record { capacity = backend.journal_size; first = copy.first; entries = copy.entries.items } =
-    λ i. record { capacity = size i; first = sym first i; entries = sym entries i } in (
-      moment_of backend.parts receipts (point.0, point.1, tt),
+    let same : point.0.journal ≡ record { capacity = size; first = copy.first; entries = copy.entries.items } =
+    λ i. record { capacity = capacity i; first = sym first i; entries = sym entries i } in (
+      moment_of parts receipts (point.0, point.1, tt),
       subst (λ (t : TailView Entry). IsTailOf point.1.history t) same point.1.stands.end,
     )
