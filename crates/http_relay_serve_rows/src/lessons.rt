@@ -59,6 +59,14 @@ const ROWS: &[Row] = &[
     ),
 ];
 
+// Whether the only pins that were set at the one port are the one of this key, or none.
+fn is_set(ports: &[ScriptedPort<'_>], key: Option<&[u8]>) -> bool {
+    match ports {
+        [port] => has_set(port, key),
+        _ => false,
+    }
+}
+
 // Whether the only pins that were set are the one of this key, at the site's server and at the request's moment, or none.
 fn has_set(port: &ScriptedPort<'_>, key: Option<&[u8]>) -> bool {
     let mut found = false;
@@ -102,7 +110,7 @@ fn answers_teach_their_cookie(rt: HostRuntime) {
         assert!(rt;
             served.outcome == Outcome::Relayed
                 && served.client.written() == *response
-                && has_set(&served.ports[0], *key),
+                && is_set(&served.ports, *key),
             "{key:?}"
         );
     }
