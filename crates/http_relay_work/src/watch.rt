@@ -22,8 +22,10 @@ const SURPLUS_PARTS: usize = 32;
 ///
 /// A worker that has the same request at two looks, 5 ms apart, counts as one that waits: for a server, in a queue, or for its client. So
 /// does one whose request began between them, if most that began so are still under way. All others are at work, or free. If clients
-/// are in the line and, at two looks in a row, fewer than half of `tune.relays` workers are at work, as many are called as are missing. If
-/// more than `tune.relays` are at work, a part of those on call is sent to rest.
+/// are in the line and, at two looks in a row, fewer than half of `tune.relays` workers are at work, as many are called as are missing. At
+/// each further look at which it is still so, twice as many are called as at the last such look, and half of that after each look at which
+/// it isn't. Never are more called than clients are in the line. If more than `tune.relays` are at work, a part of those on call is sent
+/// to rest.
 #[derive(Drop)]
 pub struct Watch<'a> {
     roster: &'a Roster,
@@ -34,6 +36,8 @@ pub struct Watch<'a> {
     seen: Vec<u64>,
     /// At how many looks in a row too few were at work.
     stalls: u32,
+    /// How many workers were called last, less a half for each look at which enough were at work since. The next call is of twice as many.
+    pace: usize,
     /// At how many looks in a row there was nothing to do.
     calm: u32,
 }
@@ -93,14 +97,15 @@ impl<'a> Watch<'a> {
             made: 0,
             seen,
             stalls: 0,
+            pace: 0,
             calm: 0,
         })
     }
 
-    /// Looks at all workers while so many clients are in the line, and says how many workers have to be called: at most `tune.relays`. It
-    /// costs a read of each worker's number.
+    /// Looks at all workers while so many clients are in the line, and says how many workers have to be called: at most one for each
+    /// client. It costs a read of each worker's number.
     pub fn look(&mut self, in_line: usize) -> usize
-        ensures { result ≤ self.old.relays }
+        ensures { result ≤ in_line }
     {
         let relays = usize::from(self.relays);
         let look = self.count();
@@ -114,15 +119,23 @@ impl<'a> Watch<'a> {
             0
         };
         let is_stalled = in_line > 0 && at_work < relays.div_ceil(2);
-        self.stalls = if is_stalled {
-            self.stalls.saturating_add(1)
-        } else {
-            0
-        };
+        self.calls(is_stalled, relays.saturating_sub(at_work))
+            .min(in_line)
+    }
+
+    /// How many are called after this look, at which so many were missing.
+    fn calls(&mut self, is_stalled: bool, missing: usize) -> usize {
+        if !is_stalled {
+            self.stalls = 0;
+            self.pace /= 2;
+            return 0;
+        }
+        self.stalls = self.stalls.saturating_add(1);
         if self.stalls < LOOKS_BEFORE_CALLS {
             return 0;
         }
-        relays.saturating_sub(at_work)
+        self.pace = missing.max(self.pace.saturating_mul(2)).min(MOST_ON_CALL);
+        self.pace
     }
 
     fn count(&mut self) -> Look {
