@@ -102,7 +102,7 @@ def the_pin_is_set_between_open_and_close(farm: Farm) -> None:
     Jar(port).get()
     expect_equal("the journal", balancer.events("web"), [
         "expire N -> expired 0", "serve N - -> served s1 loose", "open s1 -> opened s1",
-        "expire N -> expired 0", "set N s10 s1 -> pinned s1 made", "close s1 -> closed s1",
+        "set N s10 s1 -> pinned s1 made", "close s1 -> closed s1",
     ])  # fmt: skip
     ends_well(balancer)
 

@@ -34,9 +34,9 @@ const ROWS: &[Row] = &[
         None,
         Some(b"b"),
     ),
-    // Refused, as an expiry and as a pin.
+    // The pin is refused.
     (TEACHES, &[], Some((3, Refused::Worn)), None),
-    (TEACHES, &[], Some((4, Refused::Memory)), None),
+    (TEACHES, &[], Some((3, Refused::Memory)), None),
     (
         b"HTTP/1.1 200 OK\r\nSet-Cookie: T=k1\r\n\r\n",
         &[],

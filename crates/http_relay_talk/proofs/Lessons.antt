@@ -4,10 +4,9 @@ use Rattle.std.specs.Io.KnownBytes.{prepend_known}
 use Rattle.http_relay_wire.proofs.KnownBytes.{prepend_nothing, prepend_twice}
 use Rattle.http_relay_wire.specs.Wires.{Reading}
 use Rattle.lb_desk_model.specs.declared.entry.Entry.{Entry}
-use Rattle.lb_desk_model.specs.declared.event.Event.TheVariants.{Set}
 use Rattle.lb_desk_model.specs.declared.event.SetPin.{SetPin}
-use Rattle.lb_desk_ports.specs.Calls.{after_call, entry}
-use Rattle.lb_desk_ports.specs.Ports.{AddsPin, pinning_reply}
+use Rattle.lb_desk_ports.specs.Calls.{after_call}
+use Rattle.lb_desk_ports.specs.Ports.{pinning_entries}
 use Rattle.lb_desk_ports.specs.declared.refused.Refused.{Refused}
 use Rattle.lb_desk_ports.specs.declared.replies.Pinning.{Pinning}
 use Rattle.http_relay_talk.specs.Learnings.{LearnsMore, TeachesMore}
@@ -85,38 +84,28 @@ front_learns front lesson server answer piece taught old new refusals refused le
 
 -- ---- a pin that is set
 
-pin_makes : (pin : SetPin) (old new : List Entry) (reply : Result Pinning Refused) → AddsPin pin old new reply
-    → (added : List Entry) × (new ≡ old ++ added) × AddsPin pin [] added reply
-pin_makes pin old new (Ok answer) (expiry, expires, made) = (
-  expiry ++ entry (Set pin) (pinning_reply answer) ∷ [],
-  made ∙ append_assoc old expiry (entry (Set pin) (pinning_reply answer) ∷ []),
-  (expiry, expires, refl),
-)
-pin_makes pin old new (Err refused) (inl same) = ([], same ∙ sym (append-nil old), inl refl)
-pin_makes pin old new (Err refused) (inr (expiry, expires, made)) = (expiry, made, inr (expiry, expires, refl))
-
 after_set : (reply : Result Pinning Refused) (count : ℕ) → after_refusals (refusals_of reply) count ≡ after_call reply count
 after_set (Ok value) count = refl
 after_set (Err refused) count = refl
 
 pub set_teaches : (lesson : LessonView) (server : ℕ) (answer : List ℕ) (pin : SetPin) (old new : List Entry) (refusals refused : ℕ)
-    (reply : Result Pinning Refused) → IsTaughtPin lesson server answer pin → AddsPin pin old new reply → refused ≡ after_call reply refusals
+    (reply : Result Pinning Refused) → IsTaughtPin lesson server answer pin → new ≡ old ++ pinning_entries pin reply
+    → refused ≡ after_call reply refusals
     → (taught : Taught) × Makes taught old new refusals refused × Learns (Some lesson) server answer taught
-set_teaches lesson server answer pin old new refusals refused reply is adds counted =
-    let x = pin_makes pin old new reply adds in (
-      record { entries = x.0; refusals = refusals_of reply },
-      (x.1, counted ∙ sym (after_set reply refusals)),
-      inr (record {
-        first = answer;
-        rest = [];
-        begins = sym (append-nil answer);
-        pin = pin;
-        is = is;
-        reply = reply;
-        entries = x.2;
-        refusals = refl;
-      }),
-    )
+set_teaches lesson server answer pin old new refusals refused reply is adds counted = (
+  record { entries = pinning_entries pin reply; refusals = refusals_of reply },
+  (adds, counted ∙ sym (after_set reply refusals)),
+  inr (record {
+    first = answer;
+    rest = [];
+    begins = sym (append-nil answer);
+    pin = pin;
+    is = is;
+    reply = reply;
+    entries = refl;
+    refusals = refl;
+  }),
+)
 
 pub teaches_nothing : (lesson : LessonView) (server : ℕ) (answer : List ℕ) (entries : List Entry) (refusals : ℕ)
     → (taught : Taught) × Makes taught entries entries refusals refusals × Learns (Some lesson) server answer taught

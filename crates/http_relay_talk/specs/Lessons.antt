@@ -8,7 +8,7 @@ use Rattle.set_cookie.specs.TaughtKeys.{IsTaughtKey}
 use Rattle.http_relay_wire.specs.Wires.{Reading}
 use Rattle.lb_desk_model.specs.declared.entry.Entry.{Entry}
 use Rattle.lb_desk_model.specs.declared.event.SetPin.{SetPin}
-use Rattle.lb_desk_ports.specs.Ports.{AddsPin}
+use Rattle.lb_desk_ports.specs.Ports.{pinning_entries}
 use Rattle.lb_desk_ports.specs.declared.refused.Refused.{Refused}
 use Rattle.lb_desk_ports.specs.declared.replies.Pinning.{Pinning}
 use Rattle.http_relay_talk.specs.Shares.{after_refusals, refusals_of}
@@ -56,7 +56,7 @@ pub record SetsTaughtPin (lesson : LessonView) (server : ℕ) (answer : List ℕ
   pub pin : SetPin
   pub is : IsTaughtPin lesson server first pin
   pub reply : Result Pinning Refused
-  pub entries : AddsPin pin [] taught.entries reply
+  pub entries : taught.entries ≡ pinning_entries pin reply
   pub refusals : taught.refusals ≡ refusals_of reply
 
 -- What was learned of so much of a server's answer: nothing, or one pin was set, which it teaches. Without memory for a key nothing is

@@ -236,9 +236,6 @@ fn learn(
         return Ok(());
     }
     let moment = Moment::from_millis(round.start);
-    if add_event(round, owed, Event::Expire(moment), Reply::Expired(0))?.is_some() {
-        return Ok(());
-    }
     let pin = SetPin {
         name: PinId {
             key,

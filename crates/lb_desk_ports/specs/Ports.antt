@@ -62,13 +62,10 @@ AddsAsk request old new (Ok answer) =
 AddsAsk request old new (Err refused) =
     (new ≡ old) ⊎ ((expiry : List Entry) × IsExpiry request.moment expiry × (new ≡ old ++ expiry))
 
--- Setting a pin adds the entry of an expiry at the pin's moment, and then that of the pin. Where the second was refused, the first stands
-abbrev pub AddsPin : SetPin → List Entry → List Entry → Result Pinning Refused → Type 0
-AddsPin pin old new (Ok answer) =
-    (expiry : List Entry) × IsExpiry pin.moment expiry
-    × (new ≡ old ++ expiry ++ entry (Set pin) (pinning_reply answer) ∷ [])
-AddsPin pin old new (Err refused) =
-    (new ≡ old) ⊎ ((expiry : List Entry) × IsExpiry pin.moment expiry × (new ≡ old ++ expiry))
+-- the entries that setting a pin adds
+abbrev pub pinning_entries : SetPin → Result Pinning Refused → List Entry
+pinning_entries pin (Ok answer) = entry (Set pin) (pinning_reply answer) ∷ []
+pinning_entries pin (Err refused) = []
 
 -- the entries that opening a connection to the server adds
 abbrev pub opening_entries : {S : Type 0} → ℕ → Result (Opening S) Refused → List Entry

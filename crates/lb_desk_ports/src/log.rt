@@ -1,9 +1,9 @@
 ghost use Rattle.std.specs.Prelude.{◌≡◌, ◌++◌, [], ◌∷◌, OnOk, OnErr};
 ghost use Rattle.lb_desk_ports.specs.Calls.{after_call, entry};
-ghost use Rattle.lb_desk_ports.specs.Ports.{AddsAsk, AddsPin};
+ghost use Rattle.lb_desk_ports.specs.Ports.{AddsAsk};
 
-use crate::{Asked, Pinning, Refused};
-use lb_desk_model::{Entry, Event, Reply, Request, SetPin};
+use crate::{Asked, Refused};
+use lb_desk_model::{Entry, Event, Reply, Request};
 use std::alloc::Global;
 
 /// The event that a script refuses, counted from 0, and how.
@@ -66,17 +66,6 @@ impl Log {
         self.add(Event::Expire(moment), Reply::Expired(0))?;
         self.add(Event::Serve(request), reply)?;
         Ok(*asked)
-    }
-
-    /// Adds the two entries of a pin that is set.
-    pub(crate) fn set(&mut self, pin: SetPin, pinning: Pinning) -> Result<Pinning, Refused>
-        ensures entries { AddsPin pin self.old.entries.items self.new.entries.items result }
-        ensures refusals { self.new.refusals ≡ self.old.refusals }
-    {
-        let moment = pin.moment;
-        self.add(Event::Expire(moment), Reply::Expired(0))?;
-        self.add(Event::Set(pin), pinning.reply())?;
-        Ok(pinning)
     }
 
     /// Counts the call if it was refused.

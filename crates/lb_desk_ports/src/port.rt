@@ -1,14 +1,14 @@
 ghost use Rattle.std.specs.Prelude.{◌≡◌, ◌++◌, ℕ, List};
 ghost use Rattle.lb_desk_model.specs.declared.entry.Entry.{Entry};
 ghost use Rattle.lb_desk_ports.specs.Calls.{after_call};
-ghost use Rattle.lb_desk_ports.specs.Ports.{AddsAsk, AddsPin, opening_entries, shutting_entries, filing_entries, IfOpened};
+ghost use Rattle.lb_desk_ports.specs.Ports.{AddsAsk, opening_entries, pinning_entries, shutting_entries, filing_entries, IfOpened};
 
 use crate::{Asked, Filed, Opening, Pinning, Refused, Shut};
 use lb_desk_model::{Request, SetPin};
 use lb_types::ServerId;
 
-/// A backend, as a caller that serves requests or files checks sees it. Each call makes events, one step of the backend each. A call
-/// that is refused when out of memory or as `Worn` makes none, except for the first of the two of `ask` and of `set`.
+/// A backend, as a caller that serves requests or files checks sees it. Each call makes one event, one step of the backend, but `ask`
+/// makes two. A call that is refused when out of memory or as `Worn` makes none, except for the first of the two of `ask`.
 pub trait Port<R> {
     /// A connection that is open at a server. It can't be dropped: the caller that got it gives it back.
     type Slot;
@@ -29,10 +29,9 @@ pub trait Port<R> {
         ensures entries { AddsAsk request (entries self.old) (entries self.new) result }
         ensures refusals { refusals self.new ≡ after_call result (refusals self.old) };
 
-    /// Has a pin stand at a server, where its session was seen: first pins go that weren't used for long at the pin's moment, and then
-    /// the pin is set.
+    /// Has a pin stand at a server, where its session was seen.
     fn set(&mut self, rt: &R, pin: SetPin) -> Result<Pinning, Refused>
-        ensures entries { AddsPin pin (entries self.old) (entries self.new) result }
+        ensures entries { entries self.new ≡ entries self.old ++ pinning_entries pin result }
         ensures refusals { refusals self.new ≡ after_call result (refusals self.old) };
 
     /// Opens a connection to the server.

@@ -105,7 +105,11 @@ impl<R> Port<R> for ScriptedPort<'_> {
     }
 
     fn set(&mut self, _rt: &R, pin: SetPin) -> Result<Pinning, Refused> {
-        let answer = self.log.set(pin, self.script.set);
+        let pinning = self.script.set;
+        let answer = match self.log.add(Event::Set(pin), pinning.reply()) {
+            Ok(()) => Ok(pinning),
+            Err(refused) => Err(refused),
+        };
         self.log.note(&answer);
         answer
     }

@@ -4,27 +4,25 @@ use mathlib.Core.List.{map-append}
 use Rattle.pin_set.specs.declared.totals.Score.{Score}
 use Rattle.lb_desk_model.specs.declared.entry.Entry.{Entry}
 use Rattle.lb_desk_model.specs.declared.event.Event.{Event}
-use Rattle.lb_desk_model.specs.declared.event.Event.TheVariants.{Serve, Set, Open, Close, Expire, Snapshot, Install}
+use Rattle.lb_desk_model.specs.declared.event.Event.TheVariants.{Serve, Open, Close, Expire, Snapshot, Install}
 use Rattle.lb_desk_model.specs.declared.event.Request.{Request}
-use Rattle.lb_desk_model.specs.declared.event.SetPin.{SetPin}
-use Rattle.lb_desk_model.specs.declared.reply.Refusal.TheVariants.{NoSuchServer, NoServer, TableFull}
+use Rattle.lb_desk_model.specs.declared.reply.Refusal.TheVariants.{NoSuchServer, NoServer}
 use Rattle.lb_desk_model.specs.declared.reply.Reply.{Reply}
-use Rattle.lb_desk_model.specs.declared.reply.Reply.TheVariants.{Served, Pinned, NoTable, Expired, Refused, Sheet, Installed}
+use Rattle.lb_desk_model.specs.declared.reply.Reply.TheVariants.{Served, Expired, Refused, Sheet, Installed}
 use Rattle.lb_desk_model.specs.Backends.{BackendParts}
 use Rattle.lb_desk_model.specs.States.{State}
 use Rattle.lb_desk_model.specs.Steps.{Does}
 use Rattle.lb_desk_ports.specs.declared.replies.Asked.{Asked}
 use Rattle.lb_desk_ports.specs.declared.refused.Refused.{Refused as Refusal}
-use Rattle.lb_desk_ports.specs.declared.replies.Pinning.{Pinning}
 use Rattle.lb_desk_ports.specs.declared.replies.Opening.{Opening}
 use Rattle.lb_desk_ports.specs.declared.replies.Shut.{Shut}
 use Rattle.lb_desk_ports.specs.Calls.{entry}
 use Rattle.lb_desk_ports.specs.Movers.{PlansNow}
-use Rattle.lb_desk_ports.specs.Ports.{AddsAsk, AddsPin, asked_reply, pinning_reply, opening_entries, opening_reply, shut_reply, shutting_entries}
+use Rattle.lb_desk_ports.specs.Ports.{AddsAsk, asked_reply, opening_entries, opening_reply, shut_reply, shutting_entries}
 use Rattle.lb_desk_tie.specs.Receipts.{PassView}
 use Rattle.lb_desk_shared.specs.Calls.{AddsPlan, AddsStep, entries_of}
 use Rattle.lb_desk_steer.specs.Steering.{AddsAt}
-use Rattle.lb_desk_seat.specs.Replies.{Answers, asked_of, pinning_of}
+use Rattle.lb_desk_seat.specs.Replies.{Answers, asked_of}
 
 -- a step adds its entry
 pub step_adds : (backend : BackendParts) (old new : PassView Entry) (event : Event) (reply : Reply) → AddsStep backend old event reply new
@@ -104,21 +102,3 @@ asked_adds request first second answer old mid new expires before serves after i
       after ∙ ap (λ (es : List Entry). es ++ entry (Serve request) second ∷ []) gone
           ∙ ap (λ (r : Reply). old ++ expiry ++ entry (Serve request) r ∷ []) told,
     )
-
--- ---- the two events of a pin that is set
-
-does_set : (old : State) (set : SetPin) (reply : Reply) (new : State) → Does old (Set set) reply new → pinning_reply (pinning_of reply) ≡ reply
-does_set old set (Pinned how) new d = refl
-does_set old set NoTable new d = refl
-does_set old set (Refused NoSuchServer) new d = refl
-does_set old set (Refused TableFull) new d = refl
-does_set old set reply new d = absurd d
-
-pub pin_adds : (pin : SetPin) (reply : Reply) (answer : Pinning) (old new : List Entry)
-    → AddsAt pin.moment (Set pin) old new (Ok reply) → Answers (Set pin) reply → answer ≡ pinning_of reply → AddsPin pin old new (Ok answer)
-pin_adds pin reply answer old new (expiry, expires, made) sets is = (
-  expiry,
-  expires,
-  made ∙ ap (λ (r : Reply). old ++ expiry ++ entry (Set pin) r ∷ [])
-      (sym (ap pinning_reply is ∙ does_set sets.0 pin reply sets.2.acted sets.2.does)),
-)

@@ -1,5 +1,5 @@
 ghost use Rattle.std.specs.Prelude.{◌≡◌, ◌++◌};
-ghost use Rattle.lb_desk_ports.specs.Ports.{AddsAsk, AddsPin, filing_entries, shutting_entries};
+ghost use Rattle.lb_desk_ports.specs.Ports.{AddsAsk, filing_entries, pinning_entries, shutting_entries};
 ghost use Rattle.lb_desk_seat.specs.Seats.{Adds, KeepsCounts, entries_at};
 
 use crate::Seat;
@@ -22,12 +22,10 @@ impl<S: BuildHasher, B: Naming> Seat<'_, S, B> {
         Ok(asked(&reply))
     }
 
-    // Two holds of the desk, as for a request.
     fn pin<R: Wait>(&mut self, rt: &R, pin: SetPin) -> Result<Pinning, Refused>
-        ensures adds { AddsPin pin (entries_at self.old) (entries_at self.new) result }
-        ensures counts { KeepsCounts self.old self.new }
+        ensures { Adds self.old self.new (pinning_entries pin result) }
     {
-        let reply = self.tell_at(rt, pin.moment, Event::Set(pin))?;
+        let reply = self.tell(rt, Event::Set(pin))?;
         Ok(pinning(&reply))
     }
 

@@ -16,8 +16,8 @@ use std::sync::Wait;
 /// One thread's place at a shared desk: the desk, lent, and the thread's pass. Contracts see the pass, how many calls were refused,
 /// and how often it was asked to plan while all others wait.
 ///
-/// Each call waits for the desk and holds it once, or twice to ask for a server: between the two holds others may get in. No
-/// call keeps the desk.
+/// Each call waits for the desk and holds it once, or twice where it lets pins expire first: between the two holds others may get
+/// in. No call keeps the desk.
 #[derive(Drop)]
 pub struct Seat<'a, S: BuildHasher, B: Naming> {
     pub(crate) desk: &'a SharedDesk<S, B>,

@@ -2,11 +2,11 @@
 ghost use Rattle.std.specs.Prelude.{◌≡◌};
 
 use crate::desks::{JOURNAL, shared};
-use crate::farms::{A, B, request, server, two_servers};
+use crate::farms::{A, B, pin, request, server, two_servers};
 use crate::kinds::{Kind, are};
 use lb_desk_evacuate::{Evacuation, evacuate};
-use lb_desk_model::{Backend, Entry, Reply, ServedAs};
-use lb_desk_ports::{Asked, Filed, OpenGate, Opening, Port, Refused, Shut};
+use lb_desk_model::{Backend, Entry, PinnedAs, Reply, ServedAs};
+use lb_desk_ports::{Asked, Filed, OpenGate, Opening, Pinning, Port, Refused, Shut};
 use lb_desk_seat::Seat;
 use lb_desk_shared::{Naming, SharedDesk};
 use lb_desk_steer::Steer;
@@ -28,6 +28,7 @@ const ENTRIES: &[Kind] = &[
     Kind::Made,
     Kind::Expire,
     Kind::Kept,
+    Kind::SetKept,
     Kind::Open,
     Kind::Open,
     Kind::Close,
@@ -104,6 +105,8 @@ fn serve<R: Abort, P: Port<R>>(rt: &R, alloc: Global, port: &mut P) -> Result<()
     assert_eq!(rt; made, Asked::Served(server(A), ServedAs::Made));
     let kept = port.ask(rt, request(alloc, 6, "k1")?)?;
     assert_eq!(rt; kept, Asked::Served(server(A), ServedAs::Kept));
+    let stands = port.set(rt, pin(alloc, 6, "k1", A)?)?;
+    assert_eq!(rt; stands, Pinning::Pinned(PinnedAs::Kept));
     Ok(())
 }
 

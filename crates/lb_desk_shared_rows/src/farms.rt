@@ -2,9 +2,9 @@
 ghost use Rattle.std.specs.Prelude.{◌≡◌, Ok, IfOk};
 ghost use Rattle.lb_types.specs.Names.{name_of};
 
-use lb_desk_model::{Backend, BackendServer, Request, RuleList};
-use lb_types::{Balance, Moment, Name, ServerId, TableSettings};
-use pin_set::{KeyText, PinKey};
+use lb_desk_model::{Backend, BackendServer, Request, RuleList, SetPin};
+use lb_types::{Balance, Moment, Name, ServerId, ServerSet, TableSettings};
+use pin_set::{KeyText, PinId, PinKey};
 use server_state::{AdminState, CheckSettings, ServerSettings};
 use std::alloc::{AllocError, Global};
 use std::test::Fail;
@@ -68,6 +68,25 @@ pub(crate) fn request(
     Ok(Request {
         key: Some(PinKey::Text(key)),
         rules: RuleList::new(Vec::new(alloc)),
+        cost: 1,
+        moment: Moment::from_millis(moment),
+    })
+}
+
+/// The pin of such a request, which is to stand at this server.
+pub(crate) fn pin(
+    alloc: Global,
+    moment: u64,
+    key: &'static str,
+    at: u8,
+) -> Result<SetPin, AllocError> {
+    let key = KeyText::copied_from(alloc, key.as_bytes())?;
+    Ok(SetPin {
+        name: PinId {
+            key: PinKey::Text(key),
+            want: ServerSet::empty(),
+        },
+        server: server(at),
         cost: 1,
         moment: Moment::from_millis(moment),
     })

@@ -1,6 +1,6 @@
 //! Entries of a journal in short.
 
-use lb_desk_model::{Entry, Event, Refusal, Reply, ServedAs};
+use lb_desk_model::{Entry, Event, PinnedAs, Refusal, Reply, ServedAs};
 use std::process::Abort;
 
 /// What an entry is.
@@ -13,6 +13,8 @@ pub(crate) enum Kind {
     Kept,
     /// A request whose pin moved.
     Moved,
+    /// A pin that was set where it stands.
+    SetKept,
     Open,
     Close,
     Check,
@@ -29,7 +31,8 @@ pub(crate) enum Kind {
 fn kind_of(entry: &Entry) -> Kind {
     match &entry.event {
         Event::Serve(_) => served(&entry.reply),
-        Event::Set(_) | Event::Clear(_) => Kind::Other,
+        Event::Set(_) => set(&entry.reply),
+        Event::Clear(_) => Kind::Other,
         Event::Open(_) => Kind::Open,
         Event::Close(_) => Kind::Close,
         Event::Expire(_) => Kind::Expire,
@@ -45,6 +48,13 @@ fn served(reply: &Reply) -> Kind {
         Reply::Served(_, ServedAs::Made) => Kind::Made,
         Reply::Served(_, ServedAs::Kept) => Kind::Kept,
         Reply::Served(_, ServedAs::Moved) => Kind::Moved,
+        _ => Kind::Other,
+    }
+}
+
+fn set(reply: &Reply) -> Kind {
+    match reply {
+        Reply::Pinned(PinnedAs::Kept) => Kind::SetKept,
         _ => Kind::Other,
     }
 }
