@@ -1,4 +1,4 @@
-ghost use Rattle.std.specs.Prelude.{◌≡◌, ◌+◌, ◌^◌, ◌<◌, ◌≤◌, true, [], ◌∷◌, ◌++◌, length, vec_len};
+ghost use Rattle.std.specs.Prelude.{◌≡◌, ◌+◌, ◌^◌, ◌<◌, ◌≤◌, true, nat_lt, [], ◌∷◌, ◌++◌, length, vec_len};
 ghost use Rattle.lb_desk_tie.specs.Receipts.{KeeperView, PassView, IsSound, new_keeper, with_entry, with_pass, new_pass, with_receipt, receipts_of, AreOf, Shares};
 ghost use Rattle.lb_desk_tie.specs.Rule.{keeper_view};
 
@@ -15,25 +15,28 @@ use std::marker::{Model, PhantomData};
 pub struct Keeper<E, B: Tables> {
     number: u64,
     count: u64,
-    out: u64,
+    // How many passes were given out, or the greatest number of its type. The seat has the exact number, which contracts see.
+    out: u128,
     word: Word<E>,
     seat: KeeperSeat<E>,
     tables: PhantomData<B>,
 }
 
 impl<E, B: Tables> Model for Keeper<E, B> {
-    ghost use Rattle.std.specs.Prelude.{◌≡◌, [], length};
+    ghost use Rattle.std.specs.Prelude.{◌≡◌, ◌<◌, ◌≤◌, ◌^◌, [], length};
     ghost use Rattle.lb_desk_tie.specs.Receipts.{KeeperView};
     ghost use Rattle.lb_desk_tie.specs.Rule.{keeper_view};
 
     ghost Value = { KeeperView E };
 
-    ghost view = { λ k. record { number = k.number; history = k.seat.me.0.history; passes = k.out } };
+    ghost view = { λ k. record { number = k.number; history = k.seat.me.0.history; passes = k.seat.me.0.passes } };
 
     ghost invariant = { λ k. (k.word.shared.table_id ≡ B.table_of k.number)
         × (k.word.shared.table_id.words ≡ 1)
         × (k.seat.table_id ≡ k.word.shared.table_id)
-        × (k.seat.me ≡ (keeper_view k.seat.me.0.history k.out [], []))
+        × (k.seat.me ≡ (keeper_view k.seat.me.0.history k.seat.me.0.passes [], []))
+        × (k.out ≤ k.seat.me.0.passes)
+        × (k.out < 2 ^ 64 → k.out ≡ k.seat.me.0.passes)
         × (k.count ≡ length k.seat.me.0.history) };
 }
 
@@ -69,21 +72,20 @@ impl<E: Drop, B: Tables> Keeper<E, B> {
         self.count
     }
 
-    /// How many passes were given out.
-    pub fn out(&self) -> u64
-        ensures { result ≡ self.now.passes }
+    /// Whether so many passes are fewer than were given out. It is exact, however many were.
+    pub fn lacks(&self, passes: usize) -> bool
+        ensures { result ≡ nat_lt passes self.now.passes }
     {
-        self.out
+        (passes as u128) < self.out
     }
 
-    /// A new pass, with no receipt.
+    /// A new pass, with no receipt. It is never refused, however many were given out.
     pub fn enter(&mut self) -> Pass<E, B>
-        requires { self.old.passes + 1 < 2 ^ 64 }
         ensures keeper { self.new ≡ with_pass self.old }
         ensures pass { result ≡ new_pass self.old.number }
     {
         let badge = steps::admit(&self.word, &mut self.seat);
-        self.out += 1;
+        self.out = self.out.saturating_add(1);
         Pass::of(self.number, badge)
     }
 

@@ -3,7 +3,7 @@ use atomic_table::{Join, Play, Seat, Split, Table, TableRule};
 use std::alloc::Global;
 use std::collections::LinkedList;
 
-/// What a seat at the table knows. No value of it is made.
+/// What a seat at the table knows. No value of it is made, so its numbers have no limit.
 ///
 /// The keeper knows the history and how many passes there are, and the lists of receipts that it has in hand. A pass knows
 /// one list, its own.
