@@ -164,7 +164,7 @@ fn make_pins<B: Naming, R: Wait>(
     desk: &SharedDesk<RandomState, B>,
     pins: u32,
 ) -> Result<()> {
-    let mut seat = Seat::new(alloc, desk, desk.enter(rt)?);
+    let mut seat = Seat::new(alloc, desk, desk.enter(rt));
     make_pins_at(rt, alloc, &mut seat, pins)
 }
 
@@ -222,7 +222,7 @@ fn connect<B: Naming, R: Runtime + Wait>(
     server: ServerId,
     times: &mut FourTimes,
 ) -> Result<()> {
-    let mut pass = desk.enter(rt)?;
+    let mut pass = desk.enter(rt);
     let start = Instant::now(rt)?;
     match desk.open(rt, &mut pass, server)? {
         Opening::Opened(slot) => {
@@ -252,7 +252,7 @@ fn tell_event<B: Naming, R: Runtime + Wait>(
 ) -> Result<Reply>
     requires { is_of_a_connection event ≡ false }
 {
-    let mut pass = desk.enter(rt)?;
+    let mut pass = desk.enter(rt);
     let start = Instant::now(rt)?;
     let told = desk.tell(rt, &mut pass, event)?;
     times.add(rt, start)?;
@@ -382,7 +382,7 @@ fn do_job<B: Naming, R: Wait + Clock>(
     job: Job,
     copied: &AtomicBool,
 ) -> Option<Work> {
-    let mut seat = Seat::new(alloc, desk, desk.enter(rt).ok()?);
+    let mut seat = Seat::new(alloc, desk, desk.enter(rt));
     let mut work = Work::none();
     let done = match job {
         Job::Serve(requests) => serve_all(rt, &mut seat, requests, &mut work),
@@ -488,7 +488,7 @@ fn copy_pins<B: Naming, R: Wait + Clock>(
     desk: &SharedDesk<RandomState, B>,
     work: &mut Work,
 ) -> Result<()> {
-    let mut pass = desk.enter(rt)?;
+    let mut pass = desk.enter(rt);
     let start = Instant::now(rt)?;
     let rows = desk.rows(rt, &mut pass, alloc)?;
     work.rows.add(rt, start)?;
@@ -502,7 +502,7 @@ fn copy_journal<B: Naming, R: Wait + Clock>(
     desk: &SharedDesk<RandomState, B>,
     work: &mut Work,
 ) -> Result<()> {
-    let mut pass = desk.enter(rt)?;
+    let mut pass = desk.enter(rt);
     let start = Instant::now(rt)?;
     let _entries = desk.entries(rt, &mut pass, alloc)?;
     work.entries.add(rt, start)

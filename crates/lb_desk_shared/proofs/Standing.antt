@@ -1,5 +1,5 @@
 -- The desk stands at the keeper's history, behind each call.
-use Rattle.std.proofs.Common.{◌≡◌, ℕ, ◌+◌, ◌^◌, ◌≤◌, Bool, true, false, nat_lt, List, [], ◌∷◌, ◌++◌, length, Option, Some, None, if◌then◌else◌, refl, sym, ap, ◌∙◌, subst, arith, length-append}
+use Rattle.std.proofs.Common.{◌≡◌, ℕ, ◌+◌, Bool, true, false, nat_lt, List, [], ◌∷◌, ◌++◌, length, Option, Some, None, if◌then◌else◌, refl, sym, ap, ◌∙◌, subst, arith, length-append}
 use Rattle.std.proofs.lemmas.Bool.Decides.{nat_tests}
 use Rattle.std.specs.Option.{unwrap_or}
 use Rattle.lb_desk_model.specs.declared.entry.Entry.{Entry}
@@ -15,12 +15,12 @@ use Rattle.lb_desk_step.specs.Desk.{DeskView, KeepsHeadline, StandsAt, Takes}
 use Rattle.lb_desk_step.specs.Planning.{TakesPlan}
 use Rattle.lb_desk_step.proofs.NeverBad.{none_is_bad}
 use Rattle.lb_desk_tail.specs.Tail.{TailView}
-use Rattle.lb_desk_tie.specs.Receipts.{IsSound, KeeperView, PassView, Shares, receipts_of, with_receipt}
+use Rattle.lb_desk_tie.specs.Receipts.{IsSound, PassView, Shares, receipts_of, with_receipt}
 use Rattle.lb_desk_shared.specs.declared.closing.CloseFault.{CloseFault}
 use Rattle.lb_desk_shared.specs.declared.closing.CloseFault.TheVariants.{PassesOut, SlotsOut}
 use Rattle.lb_desk_shared.specs.Calls.{AddsPlan, IsStepAt}
 use Rattle.lb_desk_shared.specs.Closing.{Closes, fault_of}
-use Rattle.lb_desk_shared.specs.Desks.{IsOutOfPasses, IsReached, TiedView}
+use Rattle.lb_desk_shared.specs.Desks.{IsReached, TiedView}
 
 pub some_same : {A : Type 0} (x y : A) → Some x ≡ Some y → x ≡ y
 some_same x y is = ap (λ o. unwrap_or o x) is
@@ -46,12 +46,6 @@ is_step backend history receipts old new number event reply at sound takes is =
 pub reached_now : (backend : BackendParts) (history : List Entry) (receipts : List (ℕ × Entry)) (desk : DeskView)
     → StandsAt backend history desk → IsSound history receipts → IsReached backend receipts desk
 reached_now backend history receipts desk at sound = record { history = history; stands = at; stand = sound.0; rise = sound.1 }
-
--- the desk at the end of the keeper's history is out of passes if the keeper can't count one more
-pub out_of_passes : (backend : BackendParts) (desk : DeskView) (keeper : KeeperView Entry)
-    → StandsAt backend keeper.history desk → 2 ^ 64 ≤ keeper.passes + 1 → IsOutOfPasses backend keeper.number
-out_of_passes backend desk keeper at none =
-    record { tied = record { desk = desk; keeper = keeper }; is = refl; stands = at; none_left = none }
 
 -- an event leaves the journal its size
 pub same_size : (old new : DeskView) (event : Event) (reply : Reply) → Takes old event reply new → new.journal.capacity ≡ old.journal.capacity

@@ -1,5 +1,5 @@
 -- The desk of a backend as many threads use it. Its history is the list of all entries so far. Our own words.
-use Rattle.std.specs.Prelude.{◌≡◌, ℕ, ◌+◌, ◌^◌, ◌≤◌, true, false, None, List, []}
+use Rattle.std.specs.Prelude.{◌≡◌, ℕ, true, false, None, List, []}
 use Rattle.lb_types.specs.declared.balance.Balance.TheVariants.{RoundRobin}
 use Rattle.lb_desk_model.specs.declared.entry.Entry.{Entry}
 use Rattle.lb_desk_model.specs.Backends.{BackendParts}
@@ -34,10 +34,3 @@ pub record IsCopyOf (size : ℕ) (journal : TailView Entry) (copy : JournalCopy)
 -- this is true of the backend's desk at some point of its history which has all of the receipts
 abbrev pub AtAPoint : BackendParts → List (ℕ × Entry) → (DeskView → Type 0) → Type 0
 AtAPoint backend receipts Is = (desk : DeskView) × IsReached backend receipts desk × Is desk
-
--- at some point of its history the backend's desk of this number has given out as many passes as can be counted
-pub record IsOutOfPasses (backend : BackendParts) (number : ℕ) : Type 0 where
-  pub tied : TiedView
-  pub is : tied.keeper.number ≡ number
-  pub stands : StandsAt backend tied.keeper.history tied.desk
-  pub none_left : 2 ^ 64 ≤ tied.keeper.passes + 1

@@ -1,8 +1,8 @@
 //! The running desk of one backend that many threads use: each call of theirs has a receipt, and all receipts are in one
 //! history.
 //!
-//! A `SharedDesk` is a desk under a lock. Each caller enters once and has a `Pass`, which goes with each of its calls and keeps
-//! their receipts. At the end `SharedDesk::close` takes all passes back.
+//! A `SharedDesk` is a desk under a lock. Each caller enters once, which is never refused, and has a `Pass`, which goes with each of
+//! its calls and keeps their receipts. At the end `SharedDesk::close` takes all passes back.
 //!
 //! Promised: a call that is answered adds a receipt for its event and the reply to the caller's pass; a call that is refused adds
 //! none. The event is the next step of a history that has all receipts of the pass, and a copy of the pins or of the journal is of

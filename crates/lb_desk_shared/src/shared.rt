@@ -4,7 +4,7 @@ ghost use Rattle.lb_desk_ports.specs.Calls.{entry};
 ghost use Rattle.lb_desk_ports.specs.Ports.{IfOpened, opening_reply, shut_reply};
 ghost use Rattle.lb_desk_shared.specs.Calls.{AddsPlan, AddsStep, IsStepAt, is_of_a_connection};
 ghost use Rattle.lb_desk_shared.specs.Closing.{Closes, fault_of};
-ghost use Rattle.lb_desk_shared.specs.Desks.{AtAPoint, IsCopyOf, IsOutOfPasses};
+ghost use Rattle.lb_desk_shared.specs.Desks.{AtAPoint, IsCopyOf};
 ghost use Rattle.lb_desk_model.specs.declared.event.Event.TheVariants as event;
 ghost use Rattle.lb_desk_step.specs.Desk.{StandsAt, is_worn_for, may_take_memory};
 ghost use Rattle.lb_desk_step.specs.Planning.{is_worn_for_two};
@@ -31,8 +31,8 @@ use std::sync::{Mutex, MutexGuard, Wait};
 /// The running desk of one backend, for many threads. Contracts see it as its number, which distinguishes it from a program's
 /// other desks.
 ///
-/// Each call waits for the desk and holds it once, for one step of the backend, and `plan_now` for two. What a hold has to drop,
-/// as an entry that leaves a full journal, is dropped after it.
+/// Each call but `number` waits for the desk and holds it once: `plan_now` for two steps of the backend, `enter`, `rows` and
+/// `entries` for none, and the others for one. An entry that leaves a full journal is dropped after that.
 #[derive(Drop)]
 pub struct SharedDesk<S: BuildHasher, B: Naming> {
     number: u64,
@@ -68,13 +68,9 @@ impl<S: BuildHasher, B: Naming> SharedDesk<S, B> {
         self.number
     }
 
-    /// A pass for one more caller, with no receipt. It is no event, and allocates nothing.
-    ///
-    /// Refused only as `Worn` (81), at a point of the backend's history at which 2^64 - 1 passes were given out.
-    pub fn enter<R: Wait>(&self, rt: &R) -> Result<Pass<Entry, B>, Refused>
-        ensures pass { IfOk result (λ pass. pass ≡ new_pass self.now) }
-        ensures refused { IfErr result (λ refused. refused ≡ Refused.Worn) }
-        ensures worn { OnErr result (IsOutOfPasses (B.opening self.now) self.now) }
+    /// A pass for one more caller, with no receipt. It is no event, allocates nothing, and is never refused.
+    pub fn enter<R: Wait>(&self, rt: &R) -> Pass<Entry, B>
+        ensures pass { result ≡ new_pass self.now }
     {
         self.hold(rt).enter()
     }
@@ -84,7 +80,7 @@ impl<S: BuildHasher, B: Naming> SharedDesk<S, B> {
     /// connection there are `open` and `shut`.
     ///
     /// Refused as `Worn` (81) only at a point of the backend's history at which `Desk::advance` refuses the event so, and when out
-    /// of memory only if the event may need some. Then no step is taken.
+    /// of memory only if the event may need some. Then the pass gets no receipt.
     pub fn tell<R: Wait>(
         &self,
         rt: &R,
@@ -219,7 +215,7 @@ impl<S: BuildHasher, B: Naming> SharedDesk<S, B> {
     /// long as a whole planning takes.
     ///
     /// Refused when out of memory, and as `Worn` (81) only at a point of the backend's history at which the second of the two events
-    /// would be. Then no step is taken.
+    /// would be. Then the pass gets no receipt.
     pub fn plan_now<R: Wait>(&self, rt: &R, pass: &mut Pass<Entry, B>) -> Result<Score, Refused>
         requires { pass.old.keeper ≡ self.now }
         ensures plan { IfOk result (λ score. AddsPlan (B.opening self.now) pass.old score pass.new) }

@@ -2,8 +2,8 @@ ghost use Rattle.std.specs.Prelude.{◌≡◌};
 
 use lb_types::ServerId;
 
-/// A connection that is open at a server of one desk. It can't be dropped: the caller that got it gives it back to that desk, by
-/// `SharedDesk::shut`.
+/// A connection that is open at a server of one desk. It can't be dropped: the caller that got it gives it back to that desk by
+/// `SharedDesk::shut`, or gives it up.
 #[derive(Debug)]
 pub struct Slot {
     pub(crate) desk: u64,

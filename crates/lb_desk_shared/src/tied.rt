@@ -1,8 +1,8 @@
-ghost use Rattle.std.specs.Prelude.{◌≡◌, ◌+◌, ◌<◌, ◌^◌, ◌≤◌, ◌↔◌, true, [], None, Some, length, vec_len, IfOk, IfErr, OnErr, IsErr, IsErrOf};
+ghost use Rattle.std.specs.Prelude.{◌≡◌, ◌+◌, ◌↔◌, true, [], None, Some, length, vec_len, IfOk, OnErr, IsErrOf};
 ghost use Rattle.lb_desk_ports.specs.Calls.{entry};
 ghost use Rattle.lb_desk_shared.specs.Calls.{AddsPlan, IsStepAt};
 ghost use Rattle.lb_desk_shared.specs.Closing.{Closes, fault_of};
-ghost use Rattle.lb_desk_shared.specs.Desks.{AtAPoint, IsOutOfPasses, IsReached};
+ghost use Rattle.lb_desk_shared.specs.Desks.{AtAPoint, IsReached};
 ghost use Rattle.lb_desk_step.specs.Desk.{StandsAt, Takes, is_worn_for, may_take_memory};
 ghost use Rattle.lb_desk_step.specs.Planning.{TakesPlan, is_worn_for_two};
 ghost use Rattle.lb_desk_tie.specs.Receipts.{AreOf, new_keeper, new_pass, with_entry, with_pass, with_receipt};
@@ -63,20 +63,13 @@ impl<S: BuildHasher, B: Naming> TiedDesk<S, B> {
         self.keeper.number()
     }
 
-    /// A new pass. Refused as `Worn` at 2^64 - 1 passes.
-    pub(crate) fn enter(&mut self) -> Result<Pass<Entry, B>, Refused>
-        ensures pass { IfOk result (λ pass. pass ≡ new_pass self.old.keeper.number) }
-        ensures keeper { IfOk result (λ pass. self.new.keeper ≡ with_pass self.old.keeper) }
+    /// A new pass, with no receipt.
+    pub(crate) fn enter(&mut self) -> Pass<Entry, B>
+        ensures pass { result ≡ new_pass self.old.keeper.number }
+        ensures keeper { self.new.keeper ≡ with_pass self.old.keeper }
         ensures desk { self.new.desk ≡ self.old.desk }
-        ensures worn { IsErr result ↔ (2 ^ 64 ≤ self.old.keeper.passes + 1) }
-        ensures refused { IfErr result (λ refused. refused ≡ Refused.Worn) }
-        ensures err { OnErr result (self.new ≡ self.old) }
-        ensures worn_at { OnErr result (IsOutOfPasses (B.opening self.old.keeper.number) self.old.keeper.number) }
     {
-        if self.keeper.out() == u64::MAX {
-            return Err(Refused::Worn);
-        }
-        Ok(self.keeper.enter())
+        self.keeper.enter()
     }
 
     /// Takes the event as one step of the desk, and gives the pass its receipt. The entry that leaves a full journal is handed
@@ -194,7 +187,7 @@ impl<S: BuildHasher, B: Naming> TiedDesk<S, B> {
     pub(crate) fn fault(&self, passes: usize) -> Option<CloseFault>
         ensures { result ≡ fault_of self.now passes }
     {
-        if (passes as u64) < self.keeper.out() {
+        if self.keeper.lacks(passes) {
             Some(CloseFault::PassesOut)
         } else if self.desk.open_connections() > 0 {
             Some(CloseFault::SlotsOut)

@@ -86,7 +86,7 @@ fn take_a_seat<S: BuildHasher, N: Naming, R: Wait + Abort>(
     alloc: Global,
     desk: &SharedDesk<S, N>,
 ) -> Result<Pass<Entry, N>, Fail> {
-    let mut seat = Seat::new(alloc, desk, desk.enter(rt)?);
+    let mut seat = Seat::new(alloc, desk, desk.enter(rt));
     serve(rt, alloc, &mut seat)?;
     connect(rt, &mut seat)?;
     check(rt, &mut seat)?;

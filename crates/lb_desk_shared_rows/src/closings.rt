@@ -57,7 +57,7 @@ fn close_thrice<B: Naming, R: Wait + Abort>(
     requires size { B.journal_size 0 ≡ JOURNAL }
 {
     let desk = desk_of::<B>(alloc, opened, 0, backend)?;
-    let mut pass = desk.enter(rt)?;
+    let mut pass = desk.enter(rt);
     assert_eq!(rt;
         request_once(rt, alloc, &desk, &mut pass, "x")?,
         Some(ServedAs::Made)

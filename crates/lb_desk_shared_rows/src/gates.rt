@@ -153,7 +153,7 @@ fn meet<N: Naming + Send + Sync, R: Threads + Wait + Clock + Abort + Sync>(
     assert!(rt; numbered?, "{row:?}");
     // Only the last try plans while all others wait.
     assert_eq!(rt; planned?, (Evacuation::Done(row.score), 1), "{row:?}");
-    let mut pass = desk.enter(rt)?;
+    let mut pass = desk.enter(rt);
     are(rt, &desk.entries(rt, &mut pass, alloc)?.entries, row.kinds);
     Ok(())
 }
@@ -166,7 +166,7 @@ fn evacuate_once<N: Naming, R: Wait + Clock>(
     meeting: &Meeting,
     tries: u32,
 ) -> Result<(Evacuation, u64), Refused> {
-    let mut seat = Seat::new(alloc, desk, desk.enter(rt)?);
+    let mut seat = Seat::new(alloc, desk, desk.enter(rt));
     let evacuation = evacuate(rt, alloc, &mut seat, meeting, tries)?;
     Ok((evacuation, seat.planned_now()))
 }
@@ -196,7 +196,7 @@ fn serve<N: Naming, R: Wait>(
     desk: &SharedDesk<Hasher, N>,
     key: &'static str,
 ) -> Result<u64, Refused> {
-    let mut pass = desk.enter(rt)?;
+    let mut pass = desk.enter(rt);
     let event = Event::Serve(request(alloc, 6, key)?);
     let receipt = desk.call(rt, &mut pass, event)?;
     Ok(receipt.number())

@@ -90,7 +90,7 @@ fn let_in<R: Wait, S: BuildHasher, N: Naming>(
     alloc: Global,
     desk: &SharedDesk<S, N>,
 ) -> Result<Asked, Refused> {
-    let mut seat = Seat::new(alloc, desk, desk.enter(rt)?);
+    let mut seat = Seat::new(alloc, desk, desk.enter(rt));
     seat.ask(rt, request(alloc, 6, "k2")?)
 }
 
@@ -127,7 +127,7 @@ fn plan_at<S: BuildHasher, N: Naming, R: Wait + Abort>(
     desk: &SharedDesk<S, N>,
     row: &Row,
 ) -> Result<(), Fail> {
-    let mut seat = Seat::new(alloc, desk, desk.enter(rt)?);
+    let mut seat = Seat::new(alloc, desk, desk.enter(rt));
     seat.ask(rt, request(alloc, 5, "k1")?)?;
     let maintenance = Change {
         server: server(A),

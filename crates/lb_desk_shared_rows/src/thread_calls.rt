@@ -52,7 +52,7 @@ pub(crate) fn day<B: Naming, R: Wait + Abort>(
     desk: &SharedDesk<Hasher, B>,
     keys: (&'static str, &'static str),
 ) -> Result<Pass<Entry, B>, Refused> {
-    let mut pass = desk.enter(rt)?;
+    let mut pass = desk.enter(rt);
     request_once(rt, alloc, desk, &mut pass, keys.0)?;
     desk.plan_now(rt, &mut pass)?;
     request_once(rt, alloc, desk, &mut pass, keys.1)?;

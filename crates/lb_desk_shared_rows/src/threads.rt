@@ -113,7 +113,7 @@ fn serve<B: Naming, R: Wait + Abort>(
     alloc: Global,
     desk: &SharedDesk<Hasher, B>,
 ) -> Option<ServedAs> {
-    let mut pass = desk.enter(rt).ok()?;
+    let mut pass = desk.enter(rt);
     request_once(rt, alloc, desk, &mut pass, "x").ok()?
 }
 

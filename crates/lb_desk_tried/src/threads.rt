@@ -159,8 +159,8 @@ fn work<B: Naming, R: Wait>(
     seed: u64,
     calls: u64,
 ) -> Result<Worked<B>, Refused> {
-    let one = Seat::new(alloc, &desks.one, desks.one.enter(rt)?);
-    let two = Seat::new(alloc, &desks.two, desks.two.enter(rt)?);
+    let one = Seat::new(alloc, &desks.one, desks.one.enter(rt));
+    let two = Seat::new(alloc, &desks.two, desks.two.enter(rt));
     let (mut one, mut two) = (Visitor::new(one), Visitor::new(two));
     let mut events = Events::new(seed, 4, 1000);
     for _ in 0..calls {

@@ -27,15 +27,10 @@ pub(crate) struct RunDesks<'a, B: Naming> {
 }
 
 impl<'a, B: Naming> RunDesks<'a, B> {
-    fn enter<R: Wait>(
-        &self,
-        rt: &R,
-        desk: &'a SharedDesk<RandomState, B>,
-    ) -> Result<RunSeat<'a, B>, Refused>
-        ensures { IfOk result (λ seat. seat.pass.keeper ≡ desk.now) }
+    fn enter<R: Wait>(&self, rt: &R, desk: &'a SharedDesk<RandomState, B>) -> RunSeat<'a, B>
+        ensures { result.pass.keeper ≡ desk.now }
     {
-        let pass = desk.enter(rt)?;
-        Ok(Seat::new(self.alloc, desk, pass))
+        Seat::new(self.alloc, desk, desk.enter(rt))
     }
 
     fn take_seat<R: Wait>(&self, rt: &R, number: usize) -> Result<RunSeat<'a, B>, Refused>
@@ -44,7 +39,7 @@ impl<'a, B: Naming> RunDesks<'a, B> {
         let Some(desk) = self.desks.get(number) else {
             return Err(Refused::Memory);
         };
-        self.enter(rt, desk)
+        Ok(self.enter(rt, desk))
     }
 
     fn take_seats<R: Wait>(&self, rt: &R) -> Result<Vec<RunSeat<'a, B>>, Refused>
@@ -53,8 +48,7 @@ impl<'a, B: Naming> RunDesks<'a, B> {
     {
         let mut seats = Vec::with_capacity(self.alloc, self.desks.len())?;
         for desk in self.desks {
-            let seat = self.enter(rt, desk)?;
-            seats.push(seat)?;
+            seats.push(self.enter(rt, desk))?;
         }
         Ok(seats)
     }

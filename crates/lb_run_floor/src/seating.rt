@@ -18,11 +18,11 @@ pub trait Seating<R>: Desks {
     /// The number of the desk that the seat is at.
     ghost desk_of: { Self.Seat → ℕ };
 
-    /// A seat at the desk of this number. Refused where a desk's `enter` is, and if no desk has the number.
+    /// A seat at the desk of this number. Refused if no desk has the number.
     fn seat_at(&self, rt: &R, number: usize) -> Result<Self::Seat, Refused>
         ensures { IfOk result (λ seat. desk_of seat ≡ number) };
 
-    /// A seat at each desk, in the order of their numbers. Refused where a desk's `enter` is, and when out of memory.
+    /// A seat at each desk, in the order of their numbers. Refused when out of memory.
     fn seats(&self, rt: &R) -> Result<Vec<Self::Seat>, Refused>
         ensures count { IfOk result (λ seats. length seats.items ≡ Self.count self.now) }
         ensures order { IfOk result (λ seats. StandInOrder desk_of seats.items) };

@@ -52,7 +52,7 @@ fn at_a_seat<S: BuildHasher, N: Naming, R: Wait + Abort>(
     alloc: Global,
     desk: &SharedDesk<S, N>,
 ) -> Result<(), Fail> {
-    let mut seat = Seat::new(alloc, desk, desk.enter(rt)?);
+    let mut seat = Seat::new(alloc, desk, desk.enter(rt));
     begin_the_day(rt, alloc, &mut seat)?;
     leave_a(rt, alloc, &mut seat)
 }
