@@ -1,3 +1,6 @@
+ghost use Rattle.std.specs.Prelude.{◌≡◌};
+ghost use Rattle.http_relay_listen.specs.Sockets.{socket_of};
+
 use libc::net::{_SS_SIZE, SOCK_CLOEXEC, SOCK_NONBLOCK, accept4};
 use os::{FromRawFd, errno};
 use std::io;
@@ -13,7 +16,9 @@ pub struct ClientListener {
 
 impl ClientListener {
     /// The listener over this socket, which listens at an IPv4 address.
-    pub(crate) fn new(socket: TcpListener) -> Self {
+    pub(crate) fn new(socket: TcpListener) -> Self
+        ensures { socket_of result ≡ socket }
+    {
         ClientListener { socket }
     }
 

@@ -11,6 +11,6 @@ mod open_files;
 mod resting;
 
 pub use client_listener::ClientListener;
-pub use listening::{listen, listen_within, with_tick};
+pub use listening::{listen, listen_over, listen_within, with_tick};
 pub use open_files::{OtherFiles, most_open_files};
 pub use resting::{passes, rest_after};

@@ -1,3 +1,6 @@
+ghost use Rattle.std.specs.Prelude.{◌≡◌, IfOk};
+ghost use Rattle.http_relay_listen.specs.Sockets.{socket_of};
+
 use crate::ClientListener;
 use http_relay_socket::StreamLimits;
 use std::io;
@@ -29,6 +32,19 @@ pub fn listen_within<R: Net>(
     // The system gives a connection the options of the socket that accepted it.
     limits.set(&socket)?;
     Ok(ClientListener::new(TcpListener::from(OwnedFd::from(socket))))
+}
+
+/// The listener over this socket, which listens at an IPv4 address already. Its accepts and what it accepts are as those of
+/// `listen_within`; its backlog stays what it is. The error is the system's, where an option can't be set.
+pub fn listen_over(socket: TcpListener, limits: StreamLimits) -> io::Result<ClientListener>
+    ensures { IfOk result (λ listener. socket_of listener ≡ socket) }
+{
+    // Another name of the same socket: what is set here is set there.
+    let same = TcpStream::from(OwnedFd::from(socket.try_clone()?));
+    socket.set_nonblocking(true)?;
+    same.set_nodelay(true)?;
+    limits.set(&same)?;
+    Ok(ClientListener::new(socket))
 }
 
 // A listening socket, whose accepts don't wait. Only streams have calls that set its options.
