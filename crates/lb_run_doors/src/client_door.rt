@@ -1,8 +1,10 @@
-ghost use Rattle.std.specs.Prelude.{◌≡◌, IfOk};
+ghost use Rattle.std.specs.Prelude.{◌≡◌, IfOk, IfSome};
+ghost use Rattle.http_relay_listen.specs.Sockets.{socket_of};
 ghost use Rattle.lb_run_doors.specs.Doors.{door_at, door_view, limits_of};
 
 use crate::fault::BindFault;
-use http_relay_listen::{ClientListener, listen_within};
+use crate::handed_socket::HandedSocket;
+use http_relay_listen::{ClientListener, listen_over, listen_within};
 use http_relay_socket::StreamLimits;
 use lb_config::Frontend;
 use lb_config_arguments::Endpoint;
@@ -21,19 +23,28 @@ pub struct ClientDoor {
 }
 
 impl ClientDoor {
-    /// Listens there for the frontend at this place.
+    /// Listens there for the frontend at this place, over the socket that was handed over for it, if there is one.
     pub(crate) fn open<R: Net>(
         rt: &R,
         alloc: Global,
         place: usize,
         frontend: &Frontend,
         endpoint: Endpoint,
+        handed: Option<HandedSocket>,
     ) -> Result<Self, BindFault>
-        ensures { IfOk result (λ door. door_view door ≡ door_at place frontend.now endpoint) }
+        ensures view { IfOk result (λ door. door_view door ≡ door_at place frontend.now endpoint) }
+        ensures over { IfOk result (λ door. IfSome handed (λ socket. socket_of door.listener ≡ socket.socket)) }
     {
-        let address = SocketAddrV4::new(endpoint.address, endpoint.port);
         let limits = limits_of(frontend);
-        match listen_within(rt, address, limits) {
+        let listener = match handed {
+            Some(handed) => listen_over(handed.socket, limits),
+            None => listen_within(
+                rt,
+                SocketAddrV4::new(endpoint.address, endpoint.port),
+                limits,
+            ),
+        };
+        match listener {
             Ok(listener) => Ok(ClientDoor {
                 listener,
                 endpoint,
