@@ -4,6 +4,8 @@ use Rattle.std.specs.Io.KnownBytes.{Appends}
 use Rattle.lb_cli_faults.specs.Faults.{fault_line}
 use Rattle.lb_config.specs.ConfigViews.{ConfigView}
 use Rattle.lb_config_sections.specs.declared.cause.LocatedFault.{LocatedFault}
+use Rattle.lb_run_doors.specs.Handed.{handed_line}
+use Rattle.lb_run_doors.specs.declared.fault.HandedFault.{HandedFault}
 use Rattle.lb_run.specs.Runs.{EndsClosed}
 
 abbrev pub bind_line : List ℕ → List ℕ
@@ -11,7 +13,8 @@ bind_line address = codes "cannot bind " ++ address ++ codes "\n"
 
 -- why a configuration isn't run to its end, as standard error says it
 abbrev pub IsHindrance : List ℕ → Type 0
-IsHindrance line = ((address : List ℕ) × (line ≡ bind_line address)) ⊎ (line ≡ codes "a backend can't be closed\n")
+IsHindrance line =
+    ((address : List ℕ) × (line ≡ bind_line address)) ⊎ (((fault : HandedFault) × (line ≡ handed_line fault)) ⊎ (line ≡ codes "a backend can't be closed\n"))
 
 -- the answer is no, and a line on standard error says what was in the way
 abbrev pub Hinders : Bool → (old_err new_err : Option (List ℕ)) → Type 0

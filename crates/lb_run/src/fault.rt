@@ -1,5 +1,5 @@
 use lb_desk_shared::CloseFault;
-use lb_run_doors::BindFault;
+use lb_run_doors::{BindFault, HandedFault};
 use std::alloc::{AllocError, AllocFailed};
 use thiserror::Error;
 
@@ -9,6 +9,9 @@ pub enum RunFault {
     /// This address can't be bound. Nothing ran.
     #[error("an address can't be bound")]
     Bind(Vec<u8>),
+    /// A socket that was handed over can't be used, or the environment that says which there are. Nothing ran.
+    #[error("a socket that was handed over can't be used")]
+    Handed(HandedFault),
     /// There is not memory enough, or a thread can't be made. What ran was ended.
     #[error("out of memory")]
     Memory,
@@ -39,6 +42,7 @@ impl From<BindFault> for RunFault {
     fn from(fault: BindFault) -> Self {
         match fault {
             BindFault::CannotBind(address) => RunFault::Bind(address),
+            BindFault::Handed(fault) => RunFault::Handed(fault),
             BindFault::Memory => RunFault::Memory,
         }
     }

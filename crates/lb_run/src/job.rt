@@ -6,17 +6,19 @@ use crate::{RunFault, run_config};
 use lb_cli_faults::{JobError, config_fault_line};
 use lb_config::{Config, read_config};
 use lb_config_sections::{ConfigFault, LocatedFault};
+use lb_run_doors::handed_line;
 use lb_run_floor::Host;
 use std::alloc::{AllocError, Global};
+use std::env::Env;
 use std::fs::Files;
 use std::io::Write;
 
 /// Runs the configuration that the text is, and returns whether all went well. A configuration's fault is printed on `out` as `check`
-/// prints it, and an address that can't be bound on `err`.
+/// prints it. An address that can't be bound, and a socket that was handed over and can't be used, are printed on `err`.
 ///
 /// `OutOfMemory`: for the configuration, before anything ran, or in the run, whose threads were ended. `CannotRead`: the system's clock
 /// or its random numbers, before anything ran. `CannotWrite`: what is printed.
-pub fn run_text<R: Host + Files, O: Write, E: Write>(
+pub fn run_text<R: Host + Files + Env, O: Write, E: Write>(
     rt: &R,
     alloc: Global,
     text: &[u8],
@@ -34,7 +36,7 @@ pub fn run_text<R: Host + Files, O: Write, E: Write>(
     }
 }
 
-fn run_and_report<R: Host + Files, O: Write, E: Write>(
+fn run_and_report<R: Host + Files + Env, O: Write, E: Write>(
     rt: &R,
     alloc: Global,
     config: &Config,
@@ -47,6 +49,7 @@ fn run_and_report<R: Host + Files, O: Write, E: Write>(
     match run_config(rt, alloc, config, out) {
         Ok(()) => Ok(true),
         Err(RunFault::Bind(address)) => print_hindrance(err, &bind_line(alloc, &address)?),
+        Err(RunFault::Handed(fault)) => print_hindrance(err, &handed_line(alloc, &fault)?),
         Err(RunFault::StillOpen(_)) => print_hindrance(err, b"a backend can't be closed\n"),
         Err(RunFault::Memory) => Err(JobError::OutOfMemory),
         Err(RunFault::System) => Err(JobError::CannotRead),

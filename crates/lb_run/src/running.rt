@@ -13,11 +13,12 @@ use lb_config::Config;
 use lb_desk_ports::{OpenGate, Refused};
 use lb_desk_shared::{Naming, SharedDesk};
 use lb_run_desks::{NewDesk, PassBox, named_desks, new_desks};
-use lb_run_doors::{ClientDoor, Doors};
+use lb_run_doors::{ClientDoor, Doors, handed_over};
 use lb_run_floor::{Floor, Host, Seating, SharedGate};
 use lb_run_operators::{OPERATORS, answer_operators};
 use lb_run_threads::{Started, start};
 use std::alloc::Global;
+use std::env::Env;
 use std::fs::Files;
 use std::hash::RandomState;
 use std::io::Write;
@@ -29,9 +30,10 @@ use std::time::Instant;
 /// Balances the load of a configuration until the command `stop` comes over its command socket; without a socket, for ever. At the end
 /// a line `closed web events 15 rising yes` is written for each backend, in the configuration's order.
 ///
-/// All addresses are bound before anything runs. Standard error lists where clients can connect, and reports when a check makes a
-/// server go up or down. Requests whose head was read are finished before the end.
-pub fn run_config<R: Host + Files, W: Write>(
+/// All addresses are bound before anything runs. A `bind` uses the socket that was handed over for its address, if there is one. So this
+/// is called once in a process. Standard error lists where clients can connect, and reports when a check makes a server go up or down.
+/// Requests whose head was read are finished before the end.
+pub fn run_config<R: Host + Files + Env, W: Write>(
     rt: &R,
     alloc: Global,
     config: &Config,
@@ -43,7 +45,7 @@ pub fn run_config<R: Host + Files, W: Write>(
 }
 
 /// The same, where workers, planners and operators' threads pass this gate at their points, so that a test can hold them there.
-pub fn run_config_past<R: Host + Files, G: SharedGate<R>, W: Write>(
+pub fn run_config_past<R: Host + Files + Env, G: SharedGate<R>, W: Write>(
     rt: &R,
     alloc: Global,
     config: &Config,
@@ -53,11 +55,12 @@ pub fn run_config_past<R: Host + Files, G: SharedGate<R>, W: Write>(
     ensures closed { OnOk result (EndsClosed config.now.backends (W.contents out.old) (W.contents out.new)) }
 {
     let _held = hold_closed_streams(rt);
+    let handed = handed_over(rt, alloc)?;
     let (Ok(hasher), Ok(start)) = (RandomState::new(rt), Instant::now(rt)) else {
         return Err(RunFault::System);
     };
     let desks = new_desks(alloc, config.backends(), hasher)?;
-    let doors = Doors::open(rt, alloc, config)?;
+    let doors = Doors::open(rt, alloc, config, handed)?;
     run_named::<R, Brand, G, W>(rt, alloc, config, start, desks, doors, gate, out)
 }
 

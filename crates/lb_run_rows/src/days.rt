@@ -3,6 +3,7 @@ use http_relay_listen::listen;
 use lb_config::{Config, read_config};
 use lb_run::{Host, run_config, run_text};
 use std::alloc::Global;
+use std::env::Env;
 use std::fs::Files;
 use std::marker::PhantomData;
 use std::net::{OpenListener, TcpListener};
@@ -65,7 +66,7 @@ fn clients_day<R: Host>(
     })
 }
 
-fn run<R: Host + Files>(
+fn run<R: Host + Files + Env>(
     rt: &R,
     alloc: Global,
     config: &Config,

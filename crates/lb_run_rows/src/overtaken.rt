@@ -5,6 +5,7 @@ use lb_config::{Config, read_config};
 use lb_desk_ports::{Gate, Point};
 use lb_run::{Host, run_config_past};
 use std::alloc::Global;
+use std::env::Env;
 use std::fs::Files;
 use std::marker::PhantomData;
 use std::net::OpenListener;
@@ -129,7 +130,7 @@ fn day_and_end<R: Host>(
     told
 }
 
-fn run<R: Host + Files>(
+fn run<R: Host + Files + Env>(
     rt: &R,
     alloc: Global,
     config: &Config,
