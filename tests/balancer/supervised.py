@@ -87,11 +87,13 @@ class Supervised:
         expect_equal("standard error", ended.err, f"listening on {HOST}:{self.port}\n")
 
 
-def launch(farm: Farm, words: list[str], out: Path, err: Path, environment: dict[str, str]) -> subprocess.Popen[bytes]:
-    """Starts a script in a group of its own, which is killed with the farm."""
+def launch(
+    farm: Farm, words: list[str], out: Path, err: Path, environment: dict[str, str], passed: tuple[int, ...] = ()
+) -> subprocess.Popen[bytes]:
+    """Starts a script in a group of its own, which is killed with the farm. It has the descriptors that are passed to it."""
     with out.open("wb") as to_out, err.open("wb") as to_err:
         process = subprocess.Popen(
-            words, stdin=subprocess.DEVNULL, stdout=to_out, stderr=to_err, env=environment, start_new_session=True
+            words, stdin=subprocess.DEVNULL, stdout=to_out, stderr=to_err, env=environment, start_new_session=True, pass_fds=passed
         )
 
     def end() -> None:
