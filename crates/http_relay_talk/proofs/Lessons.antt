@@ -1,5 +1,6 @@
 -- What is learned of an answer, piece by piece.
-use Rattle.std.proofs.Common.{◌≡◌, ℕ, List, [], ◌∷◌, ◌++◌, append-nil, append_assoc, Option, Some, None, Result, Ok, Err, inl, inr, refl, sym, subst, ap, ◌∙◌}
+use Rattle.std.proofs.Common.{◌≡◌, ℕ, Bool, true, false, List, [], ◌∷◌, ◌++◌, append-nil, append_assoc, Option, Some, None, Result, Ok, Err, IsErr, ◌⊎◌, inl, inr, refl, sym, subst, ap, ◌∙◌}
+use Rattle.std.proofs.lemmas.Bool.{false≢true}
 use Rattle.std.specs.Io.KnownBytes.{prepend_known}
 use Rattle.http_relay_wire.proofs.KnownBytes.{prepend_nothing, prepend_twice}
 use Rattle.http_relay_wire.specs.Wires.{Reading}
@@ -9,7 +10,9 @@ use Rattle.lb_desk_ports.specs.Calls.{after_call}
 use Rattle.lb_desk_ports.specs.Ports.{pinning_entries}
 use Rattle.lb_desk_ports.specs.declared.refused.Refused.{Refused}
 use Rattle.lb_desk_ports.specs.declared.replies.Pinning.{Pinning}
-use Rattle.http_relay_talk.specs.Learnings.{LearnsMore, TeachesMore}
+use Rattle.set_cookie.specs.Answers.{is_unfinished}
+use Rattle.set_cookie.specs.TaughtKeys.{IsTaughtKey}
+use Rattle.http_relay_talk.specs.Learnings.{LearnsMore, TeachesAll, TeachesMore}
 use Rattle.http_relay_talk.specs.Lessons.{LessonView, IsTaughtPin, Learns, Makes, SetsTaughtPin, Taught, Teaches, both, untaught}
 use Rattle.http_relay_talk.specs.Shares.{after_refusals, refusals_of}
 use Rattle.http_relay_talk.specs.Visits.{IsLearning}
@@ -89,52 +92,65 @@ after_set (Ok value) count = refl
 after_set (Err refused) count = refl
 
 pub set_teaches : (lesson : LessonView) (server : ℕ) (answer : List ℕ) (pin : SetPin) (old new : List Entry) (refusals refused : ℕ)
-    (reply : Result Pinning Refused) → IsTaughtPin lesson server answer pin → new ≡ old ++ pinning_entries pin reply
-    → refused ≡ after_call reply refusals
-    → (taught : Taught) × Makes taught old new refusals refused × Learns (Some lesson) server answer taught
-set_teaches lesson server answer pin old new refusals refused reply is adds counted = (
+    (reply : Result Pinning Refused) → is_unfinished answer ≡ false → IsTaughtPin lesson server answer pin
+    → new ≡ old ++ pinning_entries pin reply → refused ≡ after_call reply refusals
+    → (taught : Taught) × Makes taught old new refusals refused × ((is_unfinished answer ≡ false)
+    × ((IsTaughtKey lesson.pattern answer None × (taught ≡ untaught)) ⊎ SetsTaughtPin lesson server answer taught))
+set_teaches lesson server answer pin old new refusals refused reply whole is adds counted = (
   record { entries = pinning_entries pin reply; refusals = refusals_of reply },
   (adds, counted ∙ sym (after_set reply refusals)),
-  inr (record {
-    first = answer;
-    rest = [];
-    begins = sym (append-nil answer);
-    pin = pin;
-    is = is;
-    reply = reply;
-    entries = refl;
-    refusals = refl;
-  }),
+  (
+    whole,
+    inr (record {
+      first = answer;
+      rest = [];
+      begins = sym (append-nil answer);
+      pin = pin;
+      is = is;
+      reply = reply;
+      entries = refl;
+      refusals = refl;
+    }),
+  ),
 )
 
-pub teaches_nothing : (lesson : LessonView) (server : ℕ) (answer : List ℕ) (entries : List Entry) (refusals : ℕ)
-    → (taught : Taught) × Makes taught entries entries refusals refusals × Learns (Some lesson) server answer taught
-teaches_nothing lesson server answer entries refusals = (untaught, makes_nothing entries refusals, inl refl)
+-- ---- what is learned by a look at an answer
 
--- a lesson of the first bytes of what came is one of all of it
-pub teaches_more : (front : Front) (seen rest piece : List ℕ) (old new : List Entry) (refusals refused : ℕ)
-    → piece ≡ seen ++ rest
-    → ((taught : Taught) × Makes taught old new refusals refused × Learns (Some front.lesson) front.server (front.bytes.items ++ seen) taught)
+all_learns : {E : Type 0} (lesson : LessonView) (server : ℕ) (answer : List ℕ) (taught : Taught) (result : Result Bool E)
+    → TeachesAll lesson server answer taught result → Learns (Some lesson) server answer taught
+all_learns lesson server answer taught (Ok true) (more, nothing) = inl nothing
+all_learns lesson server answer taught (Ok false) (whole, inl (none, nothing)) = inl nothing
+all_learns lesson server answer taught (Ok false) (whole, inr sets) = inr sets
+all_learns lesson server answer taught (Err failed) nothing = inl nothing
+
+-- this was learned of an answer at a port, with this result
+abbrev pub Looks : {E : Type 0} → LessonView → ℕ → List ℕ → List Entry → List Entry → ℕ → ℕ → Result Bool E → Type 0
+Looks lesson server answer old new refusals refused result =
+    (taught : Taught) × Makes taught old new refusals refused × TeachesAll lesson server answer taught result
+
+-- memory ran out before anything was done
+pub looks_in_vain : {E : Type 0} (lesson : LessonView) (server : ℕ) (answer : List ℕ) (entries : List Entry) (refusals : ℕ) (result : Result Bool E)
+    → IsErr result → Looks lesson server answer entries entries refusals refusals result
+looks_in_vain lesson server answer entries refusals (Ok more) failed = absurd (false≢true failed)
+looks_in_vain lesson server answer entries refusals (Err fault) failed = (untaught, makes_nothing entries refusals, refl)
+
+-- a look at the bytes that were kept and the first ones of what came is one at all of that
+pub looks_last : {E : Type 0} (front : Front) (seen rest piece : List ℕ) (old new : List Entry) (refusals refused : ℕ) (result : Result Bool E)
+    → piece ≡ seen ++ rest → Looks front.lesson front.server (front.bytes.items ++ seen) old new refusals refused result
     → TeachesMore front piece old new refusals refused Over
-teaches_more front seen rest piece old new refusals refused is (taught, makes, learns) = (
+looks_last front seen rest piece old new refusals refused result is (taught, makes, all) = (
   taught,
   makes,
   subst (λ text. Learns (Some front.lesson) front.server text taught)
       (append_assoc front.bytes.items seen rest ∙ ap (λ text. front.bytes.items ++ text) (sym is))
-      (learns_more (Some front.lesson) front.server (front.bytes.items ++ seen) rest taught learns),
+      (learns_more (Some front.lesson) front.server (front.bytes.items ++ seen) rest taught
+      (all_learns front.lesson front.server (front.bytes.items ++ seen) taught result all)),
 )
 
 -- nothing is learned of it
 pub teaches_none : (front : Front) (piece : List ℕ) (entries : List Entry) (refusals : ℕ)
     → TeachesMore front piece entries entries refusals refusals Over
 teaches_none front piece entries refusals = (untaught, makes_nothing entries refusals, inl refl)
-
--- it is kept
-pub keeps_on : (front later : Front) (piece : List ℕ) (entries : List Entry) (refusals : ℕ)
-    → later.lesson ≡ front.lesson → later.server ≡ front.server → later.bytes.items ≡ front.bytes.items ++ piece
-    → TeachesMore front piece entries entries refusals refusals (Goes later)
-keeps_on front later piece entries refusals lesson server bytes =
-    (untaught, makes_nothing entries refusals, (ap (λ l. Some l) (sym lesson), server, bytes, refl))
 
 -- ---- what was read
 

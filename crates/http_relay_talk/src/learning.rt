@@ -1,12 +1,13 @@
-ghost use Rattle.std.specs.Prelude.{◌≡◌, ◌++◌, [], ℕ, List, Option, Some};
-ghost use Rattle.http_relay_talk.specs.Learnings.{LearnsMore, TeachesMore};
-ghost use Rattle.http_relay_talk.specs.Lessons.{LessonView, Learns, Makes, Taught, untaught};
+ghost use Rattle.std.specs.Prelude.{◌≡◌, ◌++◌, [], ℕ, List, Option};
+ghost use Rattle.http_relay_talk.specs.Learnings.{Keeps, LearnsMore, TeachesAll, TeachesMore};
+ghost use Rattle.http_relay_talk.specs.Lessons.{LessonView, Makes, Taught, untaught};
 ghost use Rattle.http_relay_talk.specs.Visits.{IsLearning};
 
 use crate::{Lesson, Target};
 use lb_desk_ports::Port;
 use lb_types::ServerId;
-use set_cookie::{MOST_BYTES, is_unfinished};
+use set_cookie::{MOST_BYTES, TaughtKey};
+use std::alloc::AllocError;
 
 /// How far a visit has learned from its server's answer.
 #[derive(Debug, Drop)]
@@ -62,15 +63,17 @@ impl<'a> Front<'a> {
         ensures { TeachesMore self.entry piece.now (P.entries port.old) (P.entries port.new)
             (P.refusals port.old) (P.refusals port.new) result }
     {
-        if self.bytes.is_empty() && !is_unfinished(piece) {
-            teach(rt, port, &self.lesson, self.server, piece);
-            return Learning::Over;
+        if !self.bytes.is_empty() {
+            return self.go_on(rt, port, piece);
         }
-        self.keep(rt, port, piece)
+        match teach(rt, port, &self.lesson, self.server, piece) {
+            Ok(true) => self.keep(piece),
+            Ok(false) | Err(_) => Learning::Over,
+        }
     }
 
-    // As `Learning::learn`, for a head that doesn't come in one piece.
-    fn keep<R, P: Port<R>>(self, rt: &R, port: &mut P, piece: &[u8]) -> Learning<'a>
+    // As `Learning::learn`, for a piece that others came before.
+    fn go_on<R, P: Port<R>>(self, rt: &R, port: &mut P, piece: &[u8]) -> Learning<'a>
         ensures { TeachesMore self.entry piece.now (P.entries port.old) (P.entries port.new)
             (P.refusals port.old) (P.refusals port.new) result }
     {
@@ -86,24 +89,55 @@ impl<'a> Front<'a> {
             Ok(()) => {}
             Err(_) => return Learning::Over,
         }
-        if rest.is_empty() && is_unfinished(&bytes) {
-            return Learning::Goes(Front {
+        match teach(rt, port, &lesson, server, &bytes) {
+            Ok(true) if rest.is_empty() => Learning::Goes(Front {
                 lesson,
                 server,
                 bytes,
-            });
+            }),
+            _ => Learning::Over,
         }
-        teach(rt, port, &lesson, server, &bytes);
-        Learning::Over
+    }
+
+    // Keeps a piece that may teach something with those that follow. If memory for it is refused, nothing is learned any more.
+    fn keep(self, piece: &[u8]) -> Learning<'a>
+        ensures { Keeps self.entry piece.now result }
+    {
+        let Front {
+            lesson,
+            server,
+            bytes,
+        } = self;
+        let mut kept = bytes;
+        match kept.extend_from_slice(piece) {
+            Ok(()) => Learning::Goes(Front {
+                lesson,
+                server,
+                bytes: kept,
+            }),
+            Err(_) => Learning::Over,
+        }
     }
 }
 
-/// Sets the pin that this answer of the server teaches, if it teaches one and there is memory for its key. A refusal changes nothing.
-fn teach<R, P: Port<R>>(rt: &R, port: &mut P, lesson: &Lesson<'_>, server: ServerId, answer: &[u8])
+/// Sets the pin that this answer of the server teaches, if it teaches one. True where more bytes may teach something. A pin that is refused
+/// changes nothing. The only error is out of memory, and nothing was done then.
+fn teach<R, P: Port<R>>(
+    rt: &R,
+    port: &mut P,
+    lesson: &Lesson<'_>,
+    server: ServerId,
+    answer: &[u8],
+) -> Result<bool, AllocError>
     ensures { (taught : Taught) × Makes taught (P.entries port.old) (P.entries port.new) (P.refusals port.old) (P.refusals port.new)
-        × Learns (Some lesson.now) server answer.now taught }
+        × TeachesAll lesson.now server answer.now taught result }
 {
-    if let Ok(Some(pin)) = lesson.pin(server, answer) {
-        let _pinning = port.set(rt, pin);
+    match lesson.key(answer)? {
+        TaughtKey::Unfinished => Ok(true),
+        TaughtKey::Nothing => Ok(false),
+        TaughtKey::Key(key) => {
+            let _pinning = port.set(rt, lesson.pin(key, server));
+            Ok(false)
+        }
     }
 }

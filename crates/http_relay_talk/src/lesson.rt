@@ -1,12 +1,13 @@
-ghost use Rattle.std.specs.Prelude.{◌≡◌, ◌≤◌, IfOk, IfSome};
+ghost use Rattle.std.specs.Prelude.{◌≡◌, ◌≤◌, ℕ, List, Some, IfOk};
 ghost use Rattle.lb_types.specs.declared.limits.TheConstants.{MAX_COST};
+ghost use Rattle.set_cookie.specs.TaughtKeys.{IsTaught, IsTaughtKey};
 ghost use Rattle.http_relay_talk.specs.Lessons.{IsTaughtPin};
 
 use lb_acl::StickOn;
 use lb_desk_model::SetPin;
 use lb_types::{Moment, ServerId, ServerSet};
-use pin_set::PinId;
-use set_cookie::taught_key;
+use pin_set::{PinId, PinKey};
+use set_cookie::{TaughtKey, taught_key};
 use std::alloc::{AllocError, Global};
 use std::marker::Model;
 
@@ -78,14 +79,19 @@ impl<'a> Lesson<'a> {
         self.alloc
     }
 
-    /// The pin that this answer of the server teaches, or none. The only error is out of memory.
-    pub(crate) fn pin(&self, server: ServerId, answer: &[u8]) -> Result<Option<SetPin>, AllocError>
-        ensures { IfOk result (λ found. IfSome found (λ pin. IsTaughtPin self.now server answer.now pin)) }
+    /// What this answer teaches. The only error is out of memory.
+    pub(crate) fn key(&self, answer: &[u8]) -> Result<TaughtKey, AllocError>
+        ensures { IfOk result (λ found. IsTaught self.now.pattern answer.now found) }
     {
-        let Some(key) = taught_key(self.alloc, self.pattern, answer)? else {
-            return Ok(None);
-        };
-        Ok(Some(SetPin {
+        taught_key(self.alloc, self.pattern, answer)
+    }
+
+    /// The pin of this key at the server, which an answer teaches that teaches the key.
+    pub(crate) fn pin(&self, key: PinKey, server: ServerId) -> SetPin
+        ensures { (answer : List ℕ) → IsTaughtKey self.now.pattern answer (Some key)
+            → IsTaughtPin self.now server answer result }
+    {
+        SetPin {
             name: PinId {
                 key,
                 want: self.want,
@@ -93,6 +99,6 @@ impl<'a> Lesson<'a> {
             server,
             cost: self.cost,
             moment: self.moment,
-        }))
+        }
     }
 }

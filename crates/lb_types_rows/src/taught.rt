@@ -1,7 +1,7 @@
 use crate::keys::{key, spelled, table_of};
 use crate::requests::text;
 use lb_acl::{KeySample, StickOn, TableType};
-use set_cookie::{is_unfinished, taught, taught_key};
+use set_cookie::{TaughtKey, is_unfinished, taught, taught_key};
 use std::alloc::{AllocError, Global};
 use std::process::Abort;
 
@@ -272,8 +272,13 @@ fn taught_text<R: AllocGlobal + Abort>(
     line.extend_from_slice(field.as_bytes())
         .expect(rt, "memory");
     let answer = head_of(alloc, b"HTTP/1.1 200 OK\r\n", &line).expect(rt, "memory");
-    let key = taught_key(alloc, &StickOn { sample, table }, &answer).expect(rt, "memory");
-    spelled(alloc, key.as_ref()).expect(rt, "memory")
+    let found = taught_key(alloc, &StickOn { sample, table }, &answer).expect(rt, "memory");
+    let text = match &found {
+        TaughtKey::Key(key) => spelled(alloc, Some(key)),
+        TaughtKey::Nothing => spelled(alloc, None),
+        TaughtKey::Unfinished => String::from_str(alloc, "unfinished"),
+    };
+    text.expect(rt, "memory")
 }
 
 #[test]

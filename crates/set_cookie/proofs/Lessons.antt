@@ -1,36 +1,26 @@
 -- What the parts of a head that are found say of what it teaches.
-use Rattle.std.proofs.Common.{◌≡◌, ℕ, Bool, true, false, cond, Option, Some, None, List, [], ◌∷◌, take, refl, sym, ap, ◌∙◌, arith}
+use Rattle.std.proofs.Common.{◌≡◌, ℕ, Bool, true, false, cond, Option, Some, None, List, [], ◌∷◌, refl, sym, ap, ◌∙◌, arith}
 use Rattle.std.specs.List.{last_or, list_all}
 use Rattle.std.specs.Option.{option_and_then}
 use Rattle.std.proofs.lemmas.Bool.{false≢true}
 use Rattle.std.proofs.lemmas.Bool.Decides.{nat_tests}
-use Rattle.set_cookie.specs.declared.answer.TheConstants.{MOST_BYTES}
-use Rattle.set_cookie.specs.Answers.{answered_at, taught, taught_by, taught_by_fields, value_at}
+use Rattle.set_cookie.specs.Answers.{answered_at, taught_by, taught_by_fields, value_at}
 use Rattle.set_cookie.specs.Fields.{is_field_line}
 use Rattle.set_cookie.specs.Lifetimes.{is_deletion}
-use Rattle.set_cookie.specs.Lines.{is_empty, final_head}
+use Rattle.set_cookie.specs.Lines.{is_empty}
 use Rattle.set_cookie.specs.Scans.{head_of, text_after}
 use Rattle.set_cookie.specs.SetCookies.{pair_of, set_cookies, value_of}
 use Rattle.set_cookie.specs.StatusLines.{is_status_line}
 use Rattle.set_cookie.proofs.Firsts.{before_no}
 use Rattle.set_cookie.proofs.Stays.{bad_head}
 
-taught_first : (answer name first : List ℕ) (head : Option (List (List ℕ))) → first ≡ take MOST_BYTES answer → final_head first ≡ head → taught answer name ≡ option_and_then (taught_by name) head
-unfolding taught
-taught_first answer name first head front is = ap (λ bs. option_and_then (taught_by name) (final_head bs)) (sym front) ∙ ap (option_and_then (taught_by name)) is
-
--- no head has come whole
-pub taught_none : (answer name first : List ℕ) → first ≡ take MOST_BYTES answer → final_head first ≡ None → taught answer name ≡ None
-taught_none answer name first front is = taught_first answer name first None front is
-
 -- the head is empty
-pub taught_empty : (answer name first : List ℕ) (lines : List (List ℕ)) → first ≡ take MOST_BYTES answer → final_head first ≡ Some (head_of lines) → lines ≡ [] → taught answer name ≡ None
-taught_empty answer name first lines front is none = taught_first answer name first (Some (head_of lines)) front is ∙ ap (λ ls. taught_by name (head_of ls)) none
+pub empty_teaches : (name : List ℕ) (lines : List (List ℕ)) → lines ≡ [] → taught_by name (head_of lines) ≡ None
+empty_teaches name lines none = ap (λ ls. taught_by name (head_of ls)) none
 
 -- the status line is bad
-pub taught_bad : (answer name first status : List ℕ) (lines fields : List (List ℕ)) → first ≡ take MOST_BYTES answer → final_head first ≡ Some (head_of lines) → lines ≡ status ∷ fields → is_status_line status ≡ false → taught answer name ≡ None
-taught_bad answer name first status lines fields front is begins bad =
-    taught_first answer name first (Some (head_of lines)) front is ∙ ap (λ ls. taught_by name (head_of ls)) begins ∙ bad_head name status fields bad
+pub bad_teaches : (name status : List ℕ) (lines fields : List (List ℕ)) → lines ≡ status ∷ fields → is_status_line status ≡ false → taught_by name (head_of lines) ≡ None
+bad_teaches name status lines fields begins bad = ap (λ ls. taught_by name (head_of ls)) begins ∙ bad_head name status fields bad
 
 full : (status : List ℕ) → is_status_line status ≡ true → is_empty status ≡ false
 unfolding is_status_line
@@ -49,21 +39,26 @@ unfolding taught_by_fields text_after
 texts_teach name fields = within (list_all is_field_line (head_of fields)) (value_at (answered_at (head_of fields))) (last_or None (set_cookies name (head_of fields)))
 
 -- the last text says what is taught
-taught_of : (answer name first status : List ℕ) (lines fields : List (List ℕ)) → first ≡ take MOST_BYTES answer → final_head first ≡ Some (head_of lines) → lines ≡ status ∷ fields → is_status_line status ≡ true → taught answer name ≡ option_and_then (value_at (answered_at (head_of fields))) (text_after name None fields)
-taught_of answer name first status lines fields front is begins good =
-    taught_first answer name first (Some (head_of lines)) front is ∙ ap (λ ls. taught_by name (head_of ls)) begins
-    ∙ ap (taught_by name) (before_no is_empty status fields (full status good)) ∙ lines_teach name status (head_of fields) good ∙ texts_teach name fields
+text_teaches : (name status : List ℕ) (lines fields : List (List ℕ)) → lines ≡ status ∷ fields → is_status_line status ≡ true
+    → taught_by name (head_of lines) ≡ option_and_then (value_at (answered_at (head_of fields))) (text_after name None fields)
+text_teaches name status lines fields begins good =
+    ap (λ ls. taught_by name (head_of ls)) begins ∙ ap (taught_by name) (before_no is_empty status fields (full status good))
+    ∙ lines_teach name status (head_of fields) good ∙ texts_teach name fields
 
-pub taught_nothing : (answer name first status : List ℕ) (lines fields : List (List ℕ)) → first ≡ take MOST_BYTES answer → final_head first ≡ Some (head_of lines) → lines ≡ status ∷ fields → is_status_line status ≡ true → text_after name None fields ≡ None → taught answer name ≡ None
-taught_nothing answer name first status lines fields front is begins good none =
-    taught_of answer name first status lines fields front is begins good ∙ ap (option_and_then (value_at (answered_at (head_of fields)))) none
+pub no_text_teaches : (name status : List ℕ) (lines fields : List (List ℕ)) → lines ≡ status ∷ fields → is_status_line status ≡ true
+    → text_after name None fields ≡ None → taught_by name (head_of lines) ≡ None
+no_text_teaches name status lines fields begins good none =
+    text_teaches name status lines fields begins good ∙ ap (option_and_then (value_at (answered_at (head_of fields)))) none
 
-pub taught_deleted : (answer name first status text : List ℕ) (lines fields : List (List ℕ)) → first ≡ take MOST_BYTES answer → final_head first ≡ Some (head_of lines) → lines ≡ status ∷ fields → is_status_line status ≡ true → text_after name None fields ≡ Some text → is_deletion (answered_at (head_of fields)) text ≡ true → taught answer name ≡ None
+pub deletion_teaches : (name status text : List ℕ) (lines fields : List (List ℕ)) → lines ≡ status ∷ fields → is_status_line status ≡ true
+    → text_after name None fields ≡ Some text → is_deletion (answered_at (head_of fields)) text ≡ true → taught_by name (head_of lines) ≡ None
 unfolding value_at
-taught_deleted answer name first status text lines fields front is begins good found gone =
-    taught_of answer name first status lines fields front is begins good ∙ ap (option_and_then (value_at (answered_at (head_of fields)))) found ∙ rw gone refl
+deletion_teaches name status text lines fields begins good found gone =
+    text_teaches name status lines fields begins good ∙ ap (option_and_then (value_at (answered_at (head_of fields)))) found ∙ rw gone refl
 
-pub taught_value : (answer name first status text : List ℕ) (lines fields : List (List ℕ)) → first ≡ take MOST_BYTES answer → final_head first ≡ Some (head_of lines) → lines ≡ status ∷ fields → is_status_line status ≡ true → text_after name None fields ≡ Some text → is_deletion (answered_at (head_of fields)) text ≡ false → taught answer name ≡ Some (value_of (pair_of text))
+pub value_teaches : (name status text : List ℕ) (lines fields : List (List ℕ)) → lines ≡ status ∷ fields → is_status_line status ≡ true
+    → text_after name None fields ≡ Some text → is_deletion (answered_at (head_of fields)) text ≡ false
+    → taught_by name (head_of lines) ≡ Some (value_of (pair_of text))
 unfolding value_at
-taught_value answer name first status text lines fields front is begins good found kept =
-    taught_of answer name first status lines fields front is begins good ∙ ap (option_and_then (value_at (answered_at (head_of fields)))) found ∙ rw kept refl
+value_teaches name status text lines fields begins good found kept =
+    text_teaches name status lines fields begins good ∙ ap (option_and_then (value_at (answered_at (head_of fields)))) found ∙ rw kept refl

@@ -1,5 +1,6 @@
 pub mod FinalHeads
 pub mod Firsts
+pub mod Keys
 pub mod Lessons
 pub mod Rows
 pub mod Stays

@@ -1,9 +1,11 @@
 ghost use Rattle.std.specs.Prelude.{◌≡◌, IfOk, Some};
 ghost use Rattle.std.specs.Option.{option_copied};
 ghost use Rattle.lb_acl.specs.Keys.{IsKeyFrom, IsKeyIn};
-ghost use Rattle.set_cookie.specs.TaughtKeys.{IsTaughtKey, learns};
+ghost use Rattle.set_cookie.specs.Lines.{lines_of};
+ghost use Rattle.set_cookie.specs.Scans.{head_of, text_by};
+ghost use Rattle.set_cookie.specs.TaughtKeys.{IsTaught, learns};
 
-use crate::answer::taught;
+use crate::answer::{may_go_on, taught_by, whole_head};
 use crate::bytes::front;
 use lb_acl::{KeySample, StickOn, TableType};
 use pin_set::{KeyText, PinKey};
@@ -20,19 +22,44 @@ pub fn learns(sample: &KeySample) -> bool
     }
 }
 
-/// The key that the first bytes of an answer teach a table with this `stick on`, or none where they teach nothing. Tests show that it is the
-/// key of a request with the cookie; no clause says so.
+/// What the first bytes of an answer teach a table.
+#[derive(Debug, Drop, PartialEq, Eq)]
+pub enum TaughtKey {
+    /// Nothing yet: more bytes may teach something.
+    Unfinished,
+    /// Nothing, whatever follows.
+    Nothing,
+    /// This key, whatever follows.
+    Key(PinKey),
+}
+
+/// What the first bytes of an answer teach a table with this `stick on`. Tests show that a key is that of a request with the cookie; no
+/// clause says so.
 ///
-/// Only the bytes of a text key are copied. The only error is out of memory.
-pub fn taught_key(
-    alloc: Global,
-    pattern: &StickOn,
-    answer: &[u8],
-) -> Result<Option<PinKey>, AllocError>
-    ensures exact { IfOk result (λ key. IsTaughtKey pattern.now answer.now key) }
+/// It costs two walks over a head that has come whole, and one over another. Only the bytes of a text key are copied. The only error is out
+/// of memory.
+pub fn taught_key(alloc: Global, pattern: &StickOn, answer: &[u8]) -> Result<TaughtKey, AllocError>
+    ensures exact { IfOk result (λ found. IsTaught pattern.now answer.now found) }
+{
+    let Some(head) = whole_head(answer) else {
+        return Ok(if may_go_on(answer) {
+            TaughtKey::Unfinished
+        } else {
+            TaughtKey::Nothing
+        });
+    };
+    match key_by(alloc, pattern, head)? {
+        Some(key) => Ok(TaughtKey::Key(key)),
+        None => Ok(TaughtKey::Nothing),
+    }
+}
+
+/// The key that the head which these bytes begin with teaches.
+fn key_by(alloc: Global, pattern: &StickOn, head: &[u8]) -> Result<Option<PinKey>, AllocError>
+    ensures { IfOk result (λ key. IsKeyFrom pattern.now.table (text_by pattern.now.sample (head_of (lines_of head.now))) key) }
 {
     match &pattern.sample {
-        KeySample::Cookie(name) => key_of(alloc, pattern.table, taught(answer, name.as_bytes())),
+        KeySample::Cookie(name) => key_of(alloc, pattern.table, taught_by(head, name.as_bytes())),
         KeySample::Source | KeySample::Field(_) => Ok(None),
     }
 }

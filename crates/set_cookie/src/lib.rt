@@ -2,8 +2,8 @@
 //!
 //! Promised: `taught` gives the value of the last `Set-Cookie` field that counts for a name, and nothing where that field deletes the
 //! cookie or the head is bad. `is_unfinished` says whether more bytes may teach something; if not, what was taught holds for whatever
-//! follows. `taught_key` makes a table's key of the value, as `lb_acl` makes one of a request's. Only `taught_key` allocates, and
-//! only for a key of more than 32 bytes. Start at `taught`, whose words are in `specs/Answers.antt`.
+//! follows. `taught_key` answers both in one call, and makes a table's key of the value, as `lb_acl` makes one of a request's. Only
+//! `taught_key` allocates, and only for a key of more than 32 bytes. Start at `taught`, whose words are in `specs/Answers.antt`.
 #![tactic(auto)]
 
 mod answer;
@@ -18,5 +18,5 @@ mod lines;
 mod set_cookies;
 
 pub use answer::{MOST_BYTES, is_unfinished, taught};
-pub use key::{learns, taught_key};
+pub use key::{TaughtKey, learns, taught_key};
 pub use laws::what_is_taught_stays;

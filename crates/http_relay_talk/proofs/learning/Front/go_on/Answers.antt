@@ -1,8 +1,7 @@
-use Rattle.std.proofs.Common.{◌≡◌, ◌++◌, Some, drop, sym, subst, ap, ◌∙◌}
+use Rattle.std.proofs.Common.{◌≡◌, ◌++◌, drop, sym, subst, ap, ◌∙◌}
 use Rattle.std.proofs.lemmas.List.{take-append-drop}
-use Rattle.http_relay_talk.specs.Lessons.{Learns, Makes, Taught}
-use Rattle.http_relay_talk.proofs.Lessons.{teaches_more, teaches_none}
-use Rattle.http_relay_talk.proofs.learning.Front.keep.Goals as goal
+use Rattle.http_relay_talk.proofs.Lessons.{Looks, looks_last, teaches_none}
+use Rattle.http_relay_talk.proofs.learning.Front.go_on.Goals as goal
 
 pub returns-in-Err : goal.returns-in-Err
 returns-in-Err g c = teaches_none c.args.self c.args.piece.now (g.P.Port.entries c.args.port.now) (g.P.Port.refusals c.args.port.now)
@@ -19,6 +18,6 @@ returns g c =
     let new = g.P.Port.entries c.teach.new.port in
     let refusals = g.P.Port.refusals c.args.port.now in
     let refused = g.P.Port.refusals c.teach.new.port in
-    teaches_more self first rest piece old new refusals refused is
-    (subst (λ text. (taught : Taught) × Makes taught old new refusals refused × Learns (Some self.lesson) self.server text taught)
-    (c.deref-2.ensures.value ∙ c.in-Ok.ensures.items) c.teach.ensures)
+    looks_last self first rest piece old new refusals refused c.teach.result is
+    (subst (λ text. Looks self.lesson self.server text old new refusals refused c.teach.result)
+    (c.deref.ensures.value ∙ c.in-Ok.ensures.items) c.teach.ensures)
