@@ -40,7 +40,7 @@ enum End {
 /// has to find the end.
 ///
 /// A wait also ends if the client leaves for whose request the connection is. The call then fails. In its first 5 ms a wait is for the
-/// server alone, since most servers answer within them, and a second socket costs `poll` some 0.2 us. From then on `poll` watches both,
+/// server alone, since most servers answer within them, and `poll` then watches one socket. From then on it watches both,
 /// and reports a client that left before.
 ///
 /// The connection ends by a reset (RFC 9293, 3.10.5, ABORT), as HAProxy's connections to servers do. Nothing is owed to a server
