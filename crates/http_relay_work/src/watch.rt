@@ -12,6 +12,9 @@ const LOOK_MILLIS: u64 = 5;
 /// After how many looks at a line that doesn't move workers are called.
 const LOOKS_BEFORE_CALLS: u32 = 2;
 
+/// After how many looks at a line that doesn't move more workers are called at each look.
+const LOOKS_BEFORE_MORE: u32 = 8;
+
 /// After how many looks without anything to do the watch sleeps, until a request begins.
 const LOOKS_BEFORE_SLEEP: u32 = 20;
 
@@ -22,10 +25,10 @@ const SURPLUS_PARTS: usize = 32;
 ///
 /// A worker that has the same request at two looks, 5 ms apart, counts as one that waits: for a server, in a queue, or for its client. So
 /// does one whose request began between them, if most that began so are still under way. All others are at work, or free. If clients
-/// are in the line and, at two looks in a row, fewer than half of `tune.relays` workers are at work, as many are called as are missing. At
-/// each further look at which it is still so, twice as many are called as at the last such look, and half of that after each look at which
-/// it isn't. Never are more called than clients are in the line. If more than `tune.relays` are at work, a part of those on call is sent
-/// to rest.
+/// are in the line and, at two looks in a row, fewer than half of `tune.relays` workers are at work, as many are called as are missing. From
+/// the eighth look in a row on, which a busy machine hardly causes, twice as many are called as at the last one, and half of that after each
+/// look at which enough are at work. Never are more called than clients are in the line. If more than `tune.relays` are at work, a part of
+/// those on call is sent to rest.
 #[derive(Drop)]
 pub struct Watch<'a> {
     roster: &'a Roster,
@@ -36,7 +39,7 @@ pub struct Watch<'a> {
     seen: Vec<u64>,
     /// At how many looks in a row too few were at work.
     stalls: u32,
-    /// How many workers were called last, less a half for each look at which enough were at work since. The next call is of twice as many.
+    /// How many workers were called last, less a half for each look at which enough were at work since.
     pace: usize,
     /// At how many looks in a row there was nothing to do.
     calm: u32,
@@ -134,7 +137,8 @@ impl<'a> Watch<'a> {
         if self.stalls < LOOKS_BEFORE_CALLS {
             return 0;
         }
-        self.pace = missing.max(self.pace.saturating_mul(2)).min(MOST_ON_CALL);
+        let times = if self.stalls < LOOKS_BEFORE_MORE { 1 } else { 2 };
+        self.pace = missing.max(self.pace.saturating_mul(times)).min(MOST_ON_CALL);
         self.pace
     }
 
