@@ -137,8 +137,14 @@ impl<'a> Watch<'a> {
         if self.stalls < LOOKS_BEFORE_CALLS {
             return 0;
         }
-        let times = if self.stalls < LOOKS_BEFORE_MORE { 1 } else { 2 };
-        self.pace = missing.max(self.pace.saturating_mul(times)).min(MOST_ON_CALL);
+        let times = if self.stalls < LOOKS_BEFORE_MORE {
+            1
+        } else {
+            2
+        };
+        self.pace = missing
+            .max(self.pace.saturating_mul(times))
+            .min(MOST_ON_CALL);
         self.pace
     }
 
