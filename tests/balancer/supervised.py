@@ -5,6 +5,7 @@ from __future__ import annotations
 import contextlib
 import os
 import resource
+import shlex
 import shutil
 import signal
 import subprocess
@@ -117,15 +118,33 @@ def a_stop_of_the_shipped_unit_finishes_the_request_in_flight(farm: Farm) -> Non
     unit = unit_lines()
     # At a stop systemd then sends SIGTERM to the main process alone, and nothing before.
     expect_equal("how the unit is stopped", unit.get("KillMode"), ["mixed"])
-    expect("there is no other command or signal", not {"ExecStop", "ExecStopPost", "ExecReload", "KillSignal", "Type"} & set(unit))
-    files = {"stickylb-supervised": str(SCRIPT), "stickylb": str(farm.program), "web.cfg": str(farm.folder / "web.cfg")}
-    checked, started = ([files.get(Path(word).name, word) for word in unit[name][0].split()] for name in ("ExecStartPre", "ExecStart"))
+    expect("there is no other command or signal", not {"ExecStop", "ExecStopPost", "KillSignal", "Type"} & set(unit))
+    files = {"stickylb-supervised": SCRIPT, "stickylb": farm.program, "web.cfg": farm.folder / "web.cfg"}
+    checked, started = ([str(files.get(Path(word).name, word)) for word in unit[name][0].split()] for name in ("ExecStartPre", "ExecStart"))
     supervised = Supervised(farm)
     expect_equal("the unit's command", started, supervised.process.args)
     done = subprocess.run(checked, capture_output=True, text=True, timeout=PATIENCE, check=False)
     expect_equal("its check", (done.returncode, done.stdout), (0, "configuration is valid\n"))
     supervised.signal(signal.SIGTERM)
     supervised.stops_well()
+
+
+@case
+def a_reload_of_the_shipped_unit_restarts_only_what_the_check_takes(farm: Farm) -> None:
+    [reload] = unit_lines()["ExecReload"]
+    expect("as root, which may restart units", reload.startswith("+/"))
+    config, calls, folder = farm.folder / "web.cfg", farm.folder / "calls", farm.folder / "bin"
+    folder.mkdir()
+    (folder / "systemctl").write_text(f'#!/bin/sh\necho "$@" >>{calls}\n')
+    (folder / "systemctl").chmod(0o755)
+    words = [it.replace("/usr/local/bin/stickylb", str(farm.program)).replace("/etc/stickylb/web.cfg", str(config)) for it in shlex.split(reload[1:])]
+    path = f"{folder}:{os.environ['PATH']}"
+    for text, status, called in (("backend web\n balance uri\n", 1, False), ("backend web\n", 0, True)):
+        config.write_text(text)
+        done = subprocess.run(words, env=os.environ | {"PATH": path}, capture_output=True, text=True, timeout=PATIENCE, check=False)
+        expect_equal(f"the status for {text!r}", done.returncode, status)
+        expect_equal(f"whether the unit is restarted for {text!r}", calls.exists(), called)
+    expect_equal("the command", calls.read_text(), "--no-block restart stickylb.service\n")
 
 
 @case
