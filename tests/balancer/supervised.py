@@ -4,6 +4,7 @@ from __future__ import annotations
 
 import contextlib
 import os
+import re
 import resource
 import shlex
 import shutil
@@ -137,7 +138,8 @@ def a_reload_of_the_shipped_unit_restarts_only_what_the_check_takes(farm: Farm) 
     folder.mkdir()
     (folder / "systemctl").write_text(f'#!/bin/sh\necho "$@" >>{calls}\n')
     (folder / "systemctl").chmod(0o755)
-    words = [it.replace("/usr/local/bin/stickylb", str(farm.program)).replace("/etc/stickylb/web.cfg", str(config)) for it in shlex.split(reload[1:])]
+    own = f"{farm.program} check -f {config}"
+    words = [re.sub(r"\S+/stickylb check -f \S+", own, word) for word in shlex.split(reload[1:])]
     path = f"{folder}:{os.environ['PATH']}"
     for text, status, called in (("backend web\n balance uri\n", 1, False), ("backend web\n", 0, True)):
         config.write_text(text)

@@ -19,4 +19,4 @@ pub use file_pin::{FilePin, NameList};
 pub use pin_file::PinFile;
 pub use pin_file_text::{one_text, read_pin_file};
 pub use pin_line::read_pin;
-pub use pushing::{push_backend, push_file, push_pin};
+pub use pushing::{push_backend, push_file, push_pin, push_text};

@@ -17,8 +17,15 @@ use std::alloc::AllocError;
 pub fn push_file(text: &mut Vec<u8>, file: &PinFile) -> Result<(), AllocError>
     ensures { OnOk result (text.new.items ≡ text.old.items ++ spelling file.now) }
 {
+    push_text(text, file.backends())
+}
+
+/// Puts the whole text of a file of these backends at the end. A file is read of it where a file can have these backends (`PinFile`).
+pub fn push_text(text: &mut Vec<u8>, backends: &[BackendPins]) -> Result<(), AllocError>
+    ensures { OnOk result (text.new.items ≡ text.old.items ++ spelling backends.now) }
+{
     text.extend_from_slice(b"stickypins 1\n")?;
-    push_backends(text, file.backends())?;
+    push_backends(text, backends)?;
     text.extend_from_slice(b"end\n")?;
     Ok(())
 }

@@ -1,0 +1,13 @@
+mod Parts
+mod CameBack
+mod Names
+mod Walks
+mod WantedSets
+mod Oldest
+mod Found
+mod Stacks
+mod Members
+mod Addresses
+mod Again
+mod Starts
+mod Puttings
