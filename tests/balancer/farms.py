@@ -155,6 +155,8 @@ class Farm:
         self.stack = contextlib.ExitStack()
         self.folder = Path(self.stack.enter_context(tempfile.TemporaryDirectory(prefix="balance.")))
         self.operators: Path | tuple[str, int] = self.folder / "operators"
+        # What stands on the command line behind the configuration.
+        self.words: tuple[str, ...] = ()
         self.origins = 0
         self.balancers = 0
 
@@ -192,7 +194,7 @@ class Farm:
         self.balancers += 1
         config = self.folder / f"{self.balancers}.cfg"
         config.write_text(text)
-        words = [str(self.program), "run", "-f", str(config)]
+        words = [str(self.program), "run", "-f", str(config), *self.words]
         limit = "" if most_files is None else f"ulimit -n {most_files} && "
         without = " <&- >&- 2>&-" if closed else ""
         if limit or without:

@@ -13,8 +13,8 @@ from dataclasses import dataclass
 from pathlib import Path
 
 from . import (
-    checks, commands, crowds, faults, floods, forwarding, handed_over, keys, limits, machines, manual, operators, pins, queues, rules, sessions,
-    slow, slowness, smuggling, soak, starts, supervised, waits, web_farm, wholes,
+    checks, commands, crowds, faults, floods, forwarding, handed_over, keys, limits, machines, manual, operators, pins, queues, restarts, rules,
+    sessions, slow, slowness, smuggling, soak, starts, supervised, waits, web_farm, wholes,
 )  # fmt: skip
 from .cases import CASES, Case, Failure, Mistimed
 from .farms import Farm, end_all
@@ -22,8 +22,8 @@ from .farms import Farm, end_all
 ROOT = Path(__file__).resolve().parent.parent.parent
 PROGRAM = ROOT / "crates" / "stickylb" / "out" / "stickylb"
 GROUPS = (
-    checks, commands, crowds, faults, floods, forwarding, handed_over, keys, limits, machines, manual, operators, pins, queues, rules, sessions,
-    slowness, smuggling, starts, supervised, waits, web_farm, wholes,
+    checks, commands, crowds, faults, floods, forwarding, handed_over, keys, limits, machines, manual, operators, pins, queues, restarts, rules,
+    sessions, slowness, smuggling, starts, supervised, waits, web_farm, wholes,
 )  # fmt: skip
 
 

@@ -58,13 +58,13 @@ def can_speak(name: str) -> bool:
 class Supervised:
     """A balancer that a script runs, with one request at a server that holds it back."""
 
-    def __init__(self, farm: Farm, socket: str = "", before: tuple[str, ...] = (), path: str = "") -> None:
+    def __init__(self, farm: Farm, socket: str = "", before: tuple[str, ...] = (), path: str = "", after: tuple[str, ...] = ()) -> None:
         self.gate, self.port = Gate(answers(b"a")), farm.port()
         place = socket or str(farm.folder / "operators")
         config = farm.folder / "web.cfg"
         text = listen(self.port, *LIMITS, server("a", farm.origin(self.gate)))
         config.write_text(section("global", f"stats socket {place}") + text)
-        words = [*before, str(SCRIPT), str(config), str(farm.program)]
+        words = [*before, str(SCRIPT), str(config), str(farm.program), *after]
         out, err = farm.folder / "out", farm.folder / "err"
         environment = os.environ | ({"PATH": path} if path else {})
         self.process = launch(farm, words, out, err, environment)
@@ -120,14 +120,16 @@ def a_stop_of_the_shipped_unit_finishes_the_request_in_flight(farm: Farm) -> Non
     # At a stop systemd then sends SIGTERM to the main process alone, and nothing before.
     expect_equal("how the unit is stopped", unit.get("KillMode"), ["mixed"])
     expect("there is no other command or signal", not {"ExecStop", "ExecStopPost", "KillSignal", "Type"} & set(unit))
-    files = {"stickylb-supervised": SCRIPT, "stickylb": farm.program, "web.cfg": farm.folder / "web.cfg"}
+    pins = farm.folder / "pins"
+    files = {"stickylb-supervised": SCRIPT, "stickylb": farm.program, "web.cfg": farm.folder / "web.cfg", "pins": pins}
     checked, started = ([str(files.get(Path(word).name, word)) for word in unit[name][0].split()] for name in ("ExecStartPre", "ExecStart"))
-    supervised = Supervised(farm)
+    supervised = Supervised(farm, after=("--pins", str(pins)))
     expect_equal("the unit's command", started, supervised.process.args)
     done = subprocess.run(checked, capture_output=True, text=True, timeout=PATIENCE, check=False)
     expect_equal("its check", (done.returncode, done.stdout), (0, "configuration is valid\n"))
     supervised.signal(signal.SIGTERM)
     supervised.stops_well()
+    expect_equal("the file of pins", pins.read_text(), "stickypins 1\nbackend web\nend\n")
 
 
 @case

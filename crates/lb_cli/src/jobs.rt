@@ -3,6 +3,7 @@ use lb_cli_ends::{JobError, end, opened, whole};
 use lb_cli_plans::{plan_file, tables_file, tell_version};
 use lb_cli_verify::{verify_file, verify_files};
 use lb_cli_words::Job;
+use lb_config_arguments::read_time;
 use lb_replay::replay;
 use lb_types::Counted;
 use std::alloc::Global;
@@ -14,10 +15,26 @@ use std::rt::Files;
 pub enum Performed<'a> {
     /// The job was done, or it failed and the reason was printed. The program exits with this status.
     Ended(u8),
-    /// The configuration with this text, read from this file, must be run. That takes threads and sockets, so it is left to the
-    /// caller, and `end` reports what comes of it.
-    Run { file: &'a str, text: Vec<u8> },
+    /// The configuration with this text, read from this file, must be run, with pins that outlive the process if that is asked for. That
+    /// takes threads and sockets, so it is left to the caller, and `end` reports what comes of it.
+    Run {
+        file: &'a str,
+        text: Vec<u8>,
+        pins: Option<KeptPins<'a>>,
+    },
 }
+
+/// Where pins outlive the process.
+#[derive(Clone, Copy, Debug, PartialEq, Eq)]
+pub struct KeptPins<'a> {
+    /// The file.
+    pub path: &'a str,
+    /// How often it is written while the balancer runs, in milliseconds, at most 2147483647; 0 for never.
+    pub every: u32,
+}
+
+/// How often the pins are written, in milliseconds, where the words don't say.
+const PINS_EVERY: u32 = 10_000;
 
 /// Does the job and returns the program's exit status, that of `end`. The answer goes to `out`. What prevented the job goes to `err`.
 /// A configuration to run is only read, and its text returned.
@@ -36,12 +53,44 @@ pub fn perform<'a, R: Files, O: Write, E: Write>(
         Job::Version => tell_version(out, err),
         Job::Check { file } => check_file(alloc, rt, file, out, err),
         Job::Replay { config, script } => replay_files(alloc, rt, config, script, out, err),
-        Job::Run { file } => match whole_file(alloc, rt, file) {
-            Ok(text) => return Performed::Run { file, text },
-            Err(error) => end(Err(error), file, err),
+        Job::Run { file } => return to_run(alloc, rt, file, None, err),
+        Job::RunWithPins { file, pins, every } => match every_of(every) {
+            Ok(every) => {
+                let pins = KeptPins { path: pins, every };
+                return to_run(alloc, rt, file, Some(pins), err);
+            }
+            Err(word) => refuse_time(word, err),
         },
     };
     Performed::Ended(status)
+}
+
+/// The configuration in this file, which must be run.
+fn to_run<'a, R: Files, E: Write>(
+    alloc: Global,
+    rt: &R,
+    file: &'a str,
+    pins: Option<KeptPins<'a>>,
+    err: &mut E,
+) -> Performed<'a> {
+    match whole_file(alloc, rt, file) {
+        Ok(text) => Performed::Run { file, text, pins },
+        Err(error) => Performed::Ended(end(Err(error), file, err)),
+    }
+}
+
+/// How often the pins are written, in milliseconds. The error is the word, where that is no time.
+fn every_of(word: Option<&str>) -> Result<u32, &str> {
+    match word {
+        None => Ok(PINS_EVERY),
+        Some(word) => read_time(word.as_bytes()).map_err(|_| word),
+    }
+}
+
+/// Says on standard error that the word is no time. Returns the status for wrong words.
+fn refuse_time<E: Write>(word: &str, err: &mut E) -> u8 {
+    let _ = writeln!(err, "--pins-every {word}: 24 BadNumber");
+    2
 }
 
 /// Does the job `check`.

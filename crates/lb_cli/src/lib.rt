@@ -13,7 +13,7 @@ mod jobs;
 mod laws;
 
 pub use check_job::check;
-pub use jobs::{Performed, perform};
+pub use jobs::{KeptPins, Performed, perform};
 pub use laws::plans_are_verified;
 pub use lb_cli_ends::{JobError, end, status_of};
 pub use lb_cli_plans::{VERSION, plan, plan_tables, version};

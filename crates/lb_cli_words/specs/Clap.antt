@@ -29,7 +29,7 @@ abbrev pub check_app : App
 check_app = with_rule (new_app (codes "check")) file_option_rule
 
 abbrev pub run_app : App
-run_app = with_rule (new_app (codes "run")) file_option_rule
+run_app = with_rule (with_rule (with_rule (new_app (codes "run")) file_option_rule) (named_rule (codes "pins"))) (named_rule (codes "pins-every"))
 
 -- an argument in its place that names a file
 abbrev pub operand_rule : Text → Rule

@@ -3,6 +3,8 @@ use Rattle.std.specs.Prelude.{Bool, List, [], ◌∷◌, ◌++◌, Option, Some,
 use Rattle.std.specs.Borrow.{Bor}
 use Rattle.lb_cli_words.specs.Words.{Text, texts}
 use Rattle.lb_cli_words.specs.declared.own_option.Given.{Given}
+use Rattle.lb_cli_words.specs.declared.run_options.RunOptions.{RunOptions as ReadOptions}
+use Rattle.lb_cli_words.specs.RunWords.{RunOptions}
 
 -- no operand, where there is none
 abbrev pub nothing_if : Bool → Option (List Text)
@@ -24,6 +26,10 @@ values_of (Some value) = value.now ∷ []
 -- an option's values, and the words behind it
 abbrev pub given_of : Option Given → Option (List Text × List Text)
 given_of = option_map (λ given. (values_of given.value, texts given.rest.now))
+
+-- the values of all options of `run`, and the words behind them
+abbrev pub options_of : ReadOptions → RunOptions
+options_of o = record { file = values_of o.file; pins = values_of o.pins; every = values_of o.every; rest = texts o.rest.now }
 
 -- an option's values, and one file
 abbrev pub files_of : Option (Option (Bor Text) × Bor Text) → Option (List Text)

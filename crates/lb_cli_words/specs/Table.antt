@@ -1,12 +1,13 @@
 -- The program's table of commands: what the words behind the program's name ask for.
 use Rattle.std.specs.Prelude.{◌||◌, Bool, false, List, [], ◌∷◌}
-use Rattle.std.specs.Prelude.{Option, Some, None, option_map, if◌then◌else◌, codes, bytes_eq}
+use Rattle.std.specs.Prelude.{Option, Some, None, option_map, option_and_then, unwrap_or, if◌then◌else◌, codes, bytes_eq}
 use Rattle.std.specs.Option.{option_or}
 use Rattle.lb_cli_words.specs.Words.{Text, Reader, flagged, lettered, named, operands_of, files_with, taken_out, is_help, asks_help_within, asks_help_with}
 use Rattle.lb_cli_words.specs.declared.job.Job.{Job}
-use Rattle.lb_cli_words.specs.declared.job.Job.TheVariants.{Verify, VerifyForSheet, Plan, PlanTable, Check, Replay, Run, Version}
+use Rattle.lb_cli_words.specs.declared.job.Job.TheVariants.{Verify, VerifyForSheet, Plan, PlanTable, Check, Replay, Run, RunWithPins, Version}
 use Rattle.lb_cli_words.specs.declared.own_option.OwnOption.{OwnOption}
-use Rattle.lb_cli_words.specs.declared.own_option.OwnOption.TheVariants.{File, Sheet, Table}
+use Rattle.lb_cli_words.specs.declared.own_option.OwnOption.TheVariants.{File, Sheet, Table, Pins, PinsEvery}
+use Rattle.lb_cli_words.specs.RunWords.{options_in, row_of_options}
 
 -- a row of the table: a command, with its option where that makes it another one, and its files
 abbrev pub Row : Type 0
@@ -21,6 +22,7 @@ row_of (PlanTable file) = (codes "plan --table", file.now ∷ [])
 row_of (Check file) = (codes "check", file.now ∷ [])
 row_of (Replay config script) = (codes "replay", config.now ∷ script.now ∷ [])
 row_of (Run file) = (codes "run", file.now ∷ [])
+row_of (RunWithPins file pins every) = (codes "run --pins", file.now ∷ pins.now ∷ unwrap_or (option_map (λ value. value.now ∷ []) every) [])
 row_of Version = (codes "--version", [])
 
 -- the options by which a command is another one, or names its file
@@ -28,6 +30,8 @@ abbrev pub reader_of : OwnOption → Reader
 reader_of File = lettered 102
 reader_of Sheet = named (codes "--sheet")
 reader_of Table = flagged (codes "--table")
+reader_of Pins = named (codes "--pins")
+reader_of PinsEvery = named (codes "--pins-every")
 
 -- these files as a row of the table
 abbrev pub as_row : Text → Option (List Text) → Option Row
@@ -49,7 +53,9 @@ abbrev pub replay_row : List Text → Option Row
 replay_row words = as_row (codes "replay") (operands_of 2 words)
 
 abbrev pub run_row : List Text → Option Row
-run_row words = as_row (codes "run") (files_with (reader_of File) 0 words)
+run_row words =
+    let options = options_in words in
+    option_and_then (λ none. row_of_options options) (operands_of 0 options.rest)
 
 abbrev pub version_row : List Text → Option Row
 version_row [] = Some (codes "--version", [])
@@ -73,7 +79,7 @@ asks_help_behind command words =
     else if bytes_eq command (codes "plan") then asks_help_within 1 words || asks_help_with (taken_out (reader_of Table)) 1 words
     else if bytes_eq command (codes "check") then asks_help_within 0 words || asks_help_with (reader_of File) 0 words
     else if bytes_eq command (codes "replay") then asks_help_within 2 words
-    else if bytes_eq command (codes "run") then asks_help_within 0 words || asks_help_with (reader_of File) 0 words
+    else if bytes_eq command (codes "run") then asks_help_within 0 (options_in words).rest
     else false
 
 -- the row that the words are. The first word is the program's name, the second a command of the table

@@ -67,8 +67,14 @@ fn verify<'a>(alloc: Global) -> Result<Command<'a>, AllocError>
         "Check that a plan keeps to a sheet, its own or a given one, and that no plan is better",
         "Prints `best pins N unplaced U moved M` with status 0, or the fault, as `53 NotShown`, with status 1.",
     );
+    let sheet = named_option(
+        alloc,
+        "sheet",
+        "SHEET",
+        "File that holds the sheet to judge the plan by",
+    );
     let file = operand(alloc, "file", "FILE", "File that holds the plan's text");
-    with_arguments(verify, sheet_option(alloc), file)
+    with_arguments(verify, sheet, file)
 }
 
 fn plan<'a>(alloc: Global) -> Result<Command<'a>, AllocError>
@@ -136,7 +142,19 @@ fn run<'a>(alloc: Global) -> Result<Command<'a>, AllocError>
         "Prints `closed BACKEND events N rising yes` for each backend at the end, with status 0; or the \
          configuration's first fault, as `line 2: 22 UnknownWord`, or the address that can't be bound, with status 1.",
     );
-    run.arg(config_option(alloc))
+    let pins = named_option(
+        alloc,
+        "pins",
+        "PINS",
+        "File that keeps the pins over a restart: read at the start, written at the end and in between",
+    );
+    let every = named_option(
+        alloc,
+        "pins-every",
+        "TIME",
+        "How often that file is written in between, as `10s`, which it is without this; 0 for never",
+    );
+    with_arguments(run.arg(config_option(alloc))?, pins, every)
 }
 
 /// A command without arguments: what it is for, and what it `prints`.
@@ -189,15 +207,15 @@ fn long<'a>(alloc: Global, name: &'a str, help: &'a str) -> Arg<'a>
     Arg::new(alloc, name).help(help).long(name)
 }
 
-/// The option `--sheet`, which names a file.
-fn sheet_option<'a>(alloc: Global) -> Arg<'a>
-    ensures rule { rule_of result ≡ named_rule (codes "sheet") }
+/// An option with a long name and a value.
+fn named_option<'a>(alloc: Global, name: &'a str, value: &'a str, help: &'a str) -> Arg<'a>
+    ensures rule { rule_of result ≡ named_rule name.now }
     ensures local { result.global ≡ false }
 {
-    Arg::new(alloc, "sheet")
-        .value_name("SHEET")
-        .help("File that holds the sheet to judge the plan by")
-        .long("sheet")
+    Arg::new(alloc, name)
+        .value_name(value)
+        .help(help)
+        .long(name)
 }
 
 /// The option `-f`, which names a configuration's file.

@@ -2,19 +2,42 @@
 #[derive(Clone, Copy, Debug, PartialEq, Eq)]
 pub enum Job<'a> {
     /// `verify <file>`: check the plan in the file against its own sheet.
-    Verify { file: &'a str },
+    Verify {
+        file: &'a str,
+    },
     /// `verify --sheet <sheet> <plan>`: check the plan in the one file for the sheet in the other.
-    VerifyForSheet { sheet: &'a str, plan: &'a str },
+    VerifyForSheet {
+        sheet: &'a str,
+        plan: &'a str,
+    },
     /// `plan <file>`: print a best plan for the sheet in the file.
-    Plan { file: &'a str },
+    Plan {
+        file: &'a str,
+    },
     /// `plan --table <file>`: print a best plan for the sheet in the file, as tables for a reader.
-    PlanTable { file: &'a str },
+    PlanTable {
+        file: &'a str,
+    },
     /// `check -f <file>`: check the configuration in the file.
-    Check { file: &'a str },
+    Check {
+        file: &'a str,
+    },
     /// `replay <config> <script>`: replay the script at the backend of the configuration.
-    Replay { config: &'a str, script: &'a str },
+    Replay {
+        config: &'a str,
+        script: &'a str,
+    },
     /// `run -f <file>`: balance the load of the configuration in the file.
-    Run { file: &'a str },
+    Run {
+        file: &'a str,
+    },
+    /// `run -f <file> --pins <pins>`: the same, with the pins that the other file has. It is written every so often, as
+    /// `--pins-every <every>` says where it is given.
+    RunWithPins {
+        file: &'a str,
+        pins: &'a str,
+        every: Option<&'a str>,
+    },
     /// `--version`: print the program's version.
     Version,
 }

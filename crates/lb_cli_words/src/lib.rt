@@ -11,6 +11,7 @@ mod error;
 mod job;
 mod operands;
 mod own_option;
+mod run_options;
 mod table;
 mod word;
 mod words;

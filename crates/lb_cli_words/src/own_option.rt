@@ -18,6 +18,10 @@ pub(crate) enum OwnOption {
     Sheet,
     /// `--table`.
     Table,
+    /// `--pins PINS`, also as `--pins=PINS`.
+    Pins,
+    /// `--pins-every TIME`, also as `--pins-every=TIME`.
+    PinsEvery,
 }
 
 /// An option that was read: its value, if it has one, and the words after it.
@@ -35,8 +39,10 @@ impl OwnOption {
     {
         match self {
             OwnOption::File => file_option(words),
-            OwnOption::Sheet => sheet_option(words),
+            OwnOption::Sheet => named_option("--sheet", words),
             OwnOption::Table => table_option(words),
+            OwnOption::Pins => named_option("--pins", words),
+            OwnOption::PinsEvery => named_option("--pins-every", words),
         }
     }
 }
@@ -49,13 +55,13 @@ fn file_option<'a>(words: &'a [&'a str]) -> Option<Given<'a>>
     value_of(attached(behind_f(behind_hyphen(word)?)?), rest)
 }
 
-fn sheet_option<'a>(words: &'a [&'a str]) -> Option<Given<'a>>
-    ensures read { given_of result ≡ named (codes "--sheet") (texts words.now) }
+fn named_option<'a>(name: &str, words: &'a [&'a str]) -> Option<Given<'a>>
+    ensures read { given_of result ≡ named name.now (texts words.now) }
     ensures valued { IfSome result (λ given. IsSome given.value) }
 {
     let (word, rest) = words.split_first()?;
-    let (name, value) = name_and_value(word);
-    if name != "--sheet" {
+    let (found, value) = name_and_value(word);
+    if found != name {
         return None;
     }
     value_of(value, rest)

@@ -8,6 +8,7 @@ ghost use Rattle.lb_cli_words.specs.declared.own_option.OwnOption.TheVariants.{F
 use crate::Job;
 use crate::operands::{asks_help_within, is_end, one_operand, two_operands};
 use crate::own_option::OwnOption;
+use crate::run_options::RunOptions;
 use crate::word::is_help;
 
 /// The job whose row the words are.
@@ -80,8 +81,12 @@ fn replay<'a>(words: &'a [&'a str]) -> Option<Job<'a>>
 fn run<'a>(words: &'a [&'a str]) -> Option<Job<'a>>
     ensures { option_map row_of result ≡ run_row (texts words.now) }
 {
-    let file = only_file(words)?;
-    Some(Job::Run { file })
+    let given = RunOptions::read(words);
+    if is_end(given.rest) {
+        given.job()
+    } else {
+        None
+    }
 }
 
 fn version<'a>(words: &[&str]) -> Option<Job<'a>>
@@ -108,7 +113,7 @@ fn asks_help_behind(command: &str, words: &[&str]) -> bool
         "plan" => asks_help_within(1, words) || OwnOption::Table.asks_help(words),
         "check" => asks_help_within(0, words) || file_asks_help(words),
         "replay" => asks_help_within(2, words),
-        "run" => asks_help_within(0, words) || file_asks_help(words),
+        "run" => asks_help_within(0, RunOptions::read(words).rest),
         _ => false,
     }
 }

@@ -1,13 +1,16 @@
-ghost use Rattle.std.specs.Prelude.{◌≡◌, IfOk, IsErrOf};
+ghost use Rattle.std.specs.Prelude.{◌≡◌, None, IfOk, IsErrOf};
 ghost use Rattle.lb_config.specs.Configs.{config_in};
-ghost use Rattle.lb_run.specs.Jobs.{Hinders, IsConfigText, IsHindrance, PrintsFault, Runs, RunsText, bind_line};
+ghost use Rattle.lb_run.specs.Jobs.{Hinders, HindersByPins, IsConfigText, IsHindrance, IsPinsHindrance, PrintsFault, Runs, RunsText};
+ghost use Rattle.lb_run.specs.Jobs.{bind_line, path_of, pins_line, unread_line};
 
-use crate::{RunFault, run_config};
+use crate::{Kept, PinsPlace, RunFault, run_config_keeping};
 use lb_cli_faults::{JobError, config_fault_line};
 use lb_config::{Config, read_config};
 use lb_config_sections::{ConfigFault, LocatedFault};
+use lb_desk_ports::OpenGate;
 use lb_run_doors::handed_line;
 use lb_run_floor::Host;
+use lb_run_pins::{PinsFault, TextFault, read_pins};
 use std::alloc::{AllocError, Global};
 use std::env::Env;
 use std::fs::Files;
@@ -25,14 +28,58 @@ pub fn run_text<R: Host + Files + Env, O: Write, E: Write>(
     out: &mut O,
     err: &mut E,
 ) -> Result<bool, JobError>
-    ensures runs { IfOk result (λ is_done. RunsText (config_in text.now) is_done
+    ensures runs { IfOk result (λ is_done. RunsText None (config_in text.now) is_done
+        (O.contents out.old) (O.contents out.new) (E.contents err.old) (E.contents err.new)) }
+    ensures cannot_read { IsErrOf result JobError.CannotRead → IsConfigText (config_in text.now) }
+{
+    run_text_keeping(rt, alloc, text, None, out, err)
+}
+
+/// The same, where pins outlive the process, if a place for them is given. The file there is read before an address is bound. One that
+/// isn't there has no pins. One that can't be read, or that is no file of pins, is reported on `err`, and nothing runs.
+pub fn run_text_keeping<R: Host + Files + Env, O: Write, E: Write>(
+    rt: &R,
+    alloc: Global,
+    text: &[u8],
+    place: Option<PinsPlace<'_>>,
+    out: &mut O,
+    err: &mut E,
+) -> Result<bool, JobError>
+    ensures runs { IfOk result (λ is_done. RunsText (path_of place.entry) (config_in text.now) is_done
         (O.contents out.old) (O.contents out.new) (E.contents err.old) (E.contents err.new)) }
     ensures cannot_read { IsErrOf result JobError.CannotRead → IsConfigText (config_in text.now) }
 {
     match read_config(alloc, text) {
-        Ok(config) => run_and_report(rt, alloc, &config, out, err),
+        Ok(config) => read_and_run(rt, alloc, &config, place, out, err),
         Err(ConfigFault::Fault(fault)) => print_fault(alloc, &fault, out),
         Err(ConfigFault::Memory) => Err(JobError::OutOfMemory),
+    }
+}
+
+/// Reads the file of pins, if there is a place for one, and runs the configuration.
+fn read_and_run<R: Host + Files + Env, O: Write, E: Write>(
+    rt: &R,
+    alloc: Global,
+    config: &Config,
+    place: Option<PinsPlace<'_>>,
+    out: &mut O,
+    err: &mut E,
+) -> Result<bool, JobError>
+    ensures { IfOk result (λ is_done. Runs (path_of place.entry) config.now is_done
+        (O.contents out.old) (O.contents out.new) (E.contents err.old) (E.contents err.new)) }
+{
+    let Some(place) = place else {
+        return run_and_report(rt, alloc, config, None, out, err);
+    };
+    match read_pins(rt, alloc, place.path) {
+        Ok(file) => run_and_report(rt, alloc, config, Some(Kept { place, file }), out, err),
+        Err(PinsFault::Memory) => Err(JobError::OutOfMemory),
+        Err(PinsFault::CannotRead) => {
+            print_pins_fault(err, place.path, &unread_line(alloc, place.path)?)
+        }
+        Err(PinsFault::Text(fault)) => {
+            print_pins_fault(err, place.path, &pins_line(alloc, place.path, fault)?)
+        }
     }
 }
 
@@ -40,13 +87,14 @@ fn run_and_report<R: Host + Files + Env, O: Write, E: Write>(
     rt: &R,
     alloc: Global,
     config: &Config,
+    kept: Option<Kept<'_>>,
     out: &mut O,
     err: &mut E,
 ) -> Result<bool, JobError>
-    ensures { IfOk result (λ is_done. Runs config.now is_done
+    ensures { IfOk result (λ is_done. Runs None config.now is_done
         (O.contents out.old) (O.contents out.new) (E.contents err.old) (E.contents err.new)) }
 {
-    match run_config(rt, alloc, config, out) {
+    match run_config_keeping(rt, alloc, config, kept, OpenGate, out) {
         Ok(()) => Ok(true),
         Err(RunFault::Bind(address)) => print_hindrance(err, &bind_line(alloc, &address)?),
         Err(RunFault::Handed(fault)) => print_hindrance(err, &handed_line(alloc, &fault)?),
@@ -68,6 +116,29 @@ fn bind_line(alloc: Global, address: &[u8]) -> Result<Vec<u8>, AllocError>
     Ok(line)
 }
 
+/// That this file can't be read.
+fn unread_line(alloc: Global, path: &str) -> Result<Vec<u8>, AllocError>
+    ensures { IfOk result (λ line. line.items ≡ unread_line path.now) }
+{
+    let mut line = Vec::new(alloc);
+    line.extend_from_slice(b"cannot read ")?;
+    line.extend_from_slice(path.as_bytes())?;
+    line.extend_from_slice(b"\n")?;
+    Ok(line)
+}
+
+/// That this file is no file of pins.
+fn pins_line(alloc: Global, path: &str, fault: TextFault) -> Result<Vec<u8>, AllocError>
+    ensures { IfOk result (λ line. line.items ≡ pins_line path.now fault) }
+{
+    let mut line = Vec::new(alloc);
+    line.extend_from_slice(path.as_bytes())?;
+    line.extend_from_slice(b": ")?;
+    line.extend_from_slice(fault.text(alloc)?.as_bytes())?;
+    line.extend_from_slice(b"\n")?;
+    Ok(line)
+}
+
 /// Prints the configuration's fault.
 fn print_fault<O: Write>(alloc: Global, fault: &LocatedFault, out: &mut O) -> Result<bool, JobError>
     ensures prints { IfOk result (λ is_done. PrintsFault fault.now is_done (O.contents out.old) (O.contents out.new)) }
@@ -84,6 +155,17 @@ fn print_fault<O: Write>(alloc: Global, fault: &LocatedFault, out: &mut O) -> Re
 fn print_hindrance<E: Write>(err: &mut E, line: &[u8]) -> Result<bool, JobError>
     requires { IsHindrance line.now }
     ensures { IfOk result (λ is_done. Hinders is_done (E.contents err.old) (E.contents err.new)) }
+{
+    match err.write_all(line) {
+        Ok(()) => Ok(false),
+        Err(_) => Err(JobError::CannotWrite),
+    }
+}
+
+/// Prints on standard error why this file of pins wasn't read.
+fn print_pins_fault<E: Write>(err: &mut E, path: &str, line: &[u8]) -> Result<bool, JobError>
+    requires { IsPinsHindrance path.now line.now }
+    ensures { IfOk result (λ is_done. HindersByPins path.now is_done (E.contents err.old) (E.contents err.new)) }
 {
     match err.write_all(line) {
         Ok(()) => Ok(false),

@@ -9,7 +9,8 @@
 //! closed as `lb_desk_shared` promises, so that the receipts of its passes share out one history of the backend, and a line for it went
 //! out. Its journal had the size that is configured. `run_text` answers true only if that holds of the configuration that the text is. The
 //! words are in `specs/Runs.antt` and `specs/Jobs.antt`. No clause says which threads run, when they end, and what sockets do; that is
-//! tested. Start at `run_config`.
+//! tested. Start at `run_config`. `run_config_keeping` and `run_text_keeping` are the same with pins that outlive the process
+//! (`lb_run_pins`).
 #![tactic(auto)]
 
 mod closing;
@@ -20,6 +21,7 @@ mod seating;
 mod streams;
 
 pub use fault::RunFault;
-pub use job::run_text;
+pub use job::{run_text, run_text_keeping};
 pub use lb_run_floor::{Host, SharedGate};
-pub use running::{run_config, run_config_past};
+pub use lb_run_pins::{Kept, PinsPlace};
+pub use running::{run_config, run_config_keeping, run_config_past};

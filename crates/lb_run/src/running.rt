@@ -3,10 +3,10 @@ ghost use Rattle.lb_run.specs.Runs.{EndsClosed};
 ghost use Rattle.lb_run_desks.specs.NewDesks.{AreNamed, Open};
 ghost use Rattle.lb_run_floor.specs.Seating.{StandInOrder};
 
-use crate::RunFault;
 use crate::closing::close_all;
 use crate::seating::RunDesks;
 use crate::streams::hold_closed_streams;
+use crate::{Kept, RunFault};
 use command_socket_listen::CommandListener;
 use http_relay_work::MOST_ON_CALL;
 use lb_config::Config;
@@ -16,6 +16,9 @@ use lb_run_desks::{NewDesk, PassBox, named_desks, new_desks};
 use lb_run_doors::{ClientDoor, Doors, handed_over};
 use lb_run_floor::{Floor, Host, Seating, SharedGate};
 use lb_run_operators::{OPERATORS, answer_operators};
+use lb_run_pins::{
+    PinsPlace, TextFiles, greatest_age_of, return_kept, save, set_back, start_saving,
+};
 use lb_run_threads::{Started, start};
 use std::alloc::Global;
 use std::env::Env;
@@ -41,7 +44,7 @@ pub fn run_config<R: Host + Files + Env, W: Write>(
 ) -> Result<(), RunFault>
     ensures closed { OnOk result (EndsClosed config.now.backends (W.contents out.old) (W.contents out.new)) }
 {
-    run_config_past(rt, alloc, config, OpenGate, out)
+    run_config_keeping(rt, alloc, config, None, OpenGate, out)
 }
 
 /// The same, where workers, planners and operators' threads pass this gate at their points, so that a test can hold them there.
@@ -54,22 +57,51 @@ pub fn run_config_past<R: Host + Files + Env, G: SharedGate<R>, W: Write>(
 ) -> Result<(), RunFault>
     ensures closed { OnOk result (EndsClosed config.now.backends (W.contents out.old) (W.contents out.new)) }
 {
+    run_config_keeping(rt, alloc, config, None, gate, out)
+}
+
+/// The same, where pins outlive the process, if a file keeps them: its pins are set once all addresses are bound and before a client is
+/// accepted, and at the end the file is written, after all requests. A line on standard error says of each backend how many pins were kept
+/// and left out. The clocks of all threads begin as long before the start as the oldest pin was used, or as far back as the system's goes.
+pub fn run_config_keeping<R: Host + Files + Env, G: SharedGate<R>, W: Write>(
+    rt: &R,
+    alloc: Global,
+    config: &Config,
+    kept: Option<Kept<'_>>,
+    gate: G,
+    out: &mut W,
+) -> Result<(), RunFault>
+    ensures closed { OnOk result (EndsClosed config.now.backends (W.contents out.old) (W.contents out.new)) }
+{
     let _held = hold_closed_streams(rt);
     let handed = handed_over(rt, alloc)?;
-    let (Ok(hasher), Ok(start)) = (RandomState::new(rt), Instant::now(rt)) else {
+    let (Ok(hasher), Ok(now)) = (RandomState::new(rt), Instant::now(rt)) else {
         return Err(RunFault::System);
+    };
+    let start = Start {
+        moment: set_back(now, greatest_age_of(&kept)),
+        hasher,
+        kept,
     };
     let desks = new_desks(alloc, config.backends(), hasher)?;
     let doors = Doors::open(rt, alloc, config, handed)?;
     run_named::<R, Brand, G, W>(rt, alloc, config, start, desks, doors, gate, out)
 }
 
+/// What the balancer starts with: the moment from which all clocks count, and the pins of the process before, found by this hasher.
+#[derive(Drop)]
+struct Start<'a> {
+    moment: Instant,
+    hasher: RandomState,
+    kept: Option<Kept<'a>>,
+}
+
 /// The same, with desks whose name is picked.
-fn run_named<R: Host + Files, B: Naming + Send + Sync, G: SharedGate<R>, W: Write>(
+fn run_named<R: Host + Files + TextFiles, B: Naming + Send + Sync, G: SharedGate<R>, W: Write>(
     rt: &R,
     alloc: Global,
     config: &Config,
-    start: Instant,
+    start: Start<'_>,
     desks: Vec<NewDesk<RandomState>>,
     doors: Doors,
     gate: G,
@@ -80,25 +112,26 @@ fn run_named<R: Host + Files, B: Naming + Send + Sync, G: SharedGate<R>, W: Writ
     ensures closed { OnOk result (EndsClosed config.now.backends (W.contents out.old) (W.contents out.new)) }
 {
     let desks = named_desks::<RandomState, B>(alloc, desks)?;
-    let passes = PassBox::new(alloc, most_passes(config))?;
+    let passes = PassBox::new(alloc, most_passes(config, start.kept.is_some()))?;
     serve(rt, alloc, config, start, &desks, &passes, doors, gate)?;
     close_all(alloc, config, desks, passes.into_passes(), out)
 }
 
 /// How many passes the threads have together at most: each worker, those on call included, and each operators' thread one at each desk, and
-/// each desk's checks and planner one.
-fn most_passes(config: &Config) -> usize {
-    (usize::from(config.relays()) + MOST_ON_CALL + OPERATORS + 2).saturating_mul(
+/// each desk's checks and planner one. Where pins are kept, one at each desk to set them, and two to write them.
+fn most_passes(config: &Config, keeps_pins: bool) -> usize {
+    let keepers = if keeps_pins { 3 } else { 0 };
+    (usize::from(config.relays()) + MOST_ON_CALL + OPERATORS + 2 + keepers).saturating_mul(
         config.backends().len(),
     )
 }
 
 /// Runs all threads, and returns once all of them have ended.
-fn serve<R: Host + Files, B: Naming + Send + Sync, G: SharedGate<R>>(
+fn serve<R: Host + Files + TextFiles, B: Naming + Send + Sync, G: SharedGate<R>>(
     rt: &R,
     alloc: Global,
     config: &Config,
-    start: Instant,
+    start: Start<'_>,
     desks: &[SharedDesk<RandomState, B>],
     passes: &PassBox<B>,
     doors: Doors,
@@ -112,9 +145,15 @@ fn serve<R: Host + Files, B: Naming + Send + Sync, G: SharedGate<R>>(
         desks,
         passes,
     };
-    let floor = Floor::new(alloc, config, desks, start, gate)?;
+    let floor = Floor::new(alloc, config, desks, start.moment, gate)?;
     let Doors { clients, commands } = doors;
-    let served = serve_on(rt, &floor, clients, commands);
+    let Ok(place) = return_kept(rt, &floor, start.hasher, start.kept) else {
+        return Err(RunFault::Memory);
+    };
+    let served = serve_on(rt, &floor, clients, commands, place);
+    if let Some(place) = place {
+        save(rt, &floor, place);
+    }
     if served.is_err() || floor.is_starved() {
         return Err(RunFault::Memory);
     }
@@ -122,28 +161,30 @@ fn serve<R: Host + Files, B: Naming + Send + Sync, G: SharedGate<R>>(
 }
 
 /// Runs all threads on the floor.
-fn serve_on<R: Host + Files, B: Naming + Send + Sync, G: SharedGate<R>>(
+fn serve_on<R: Host + Files + TextFiles, B: Naming + Send + Sync, G: SharedGate<R>>(
     rt: &R,
     floor: &Floor<'_, RunDesks<'_, B>, G>,
     clients: Vec<ClientDoor>,
     operators: Option<CommandListener>,
+    place: Option<PinsPlace<'_>>,
 ) -> Result<(), Refused> {
     thread::scope(
         thread::scope_env(),
         rt,
-        move |scope| serve_in(rt, scope, floor, clients, operators),
+        move |scope| serve_in(rt, scope, floor, clients, operators, place),
     )
 }
 
 /// The same in this scope. The operators' address is free again as soon as no operator is answered any more.
-fn serve_in<'s, E, R: Host + Files, B: Naming + Send + Sync, G: SharedGate<R>>(
+fn serve_in<'s, E, R: Host + Files + TextFiles, B: Naming + Send + Sync, G: SharedGate<R>>(
     rt: &'s R,
     scope: &'s Scope<'s, E>,
     floor: &'s Floor<'s, RunDesks<'s, B>, G>,
     clients: Vec<ClientDoor>,
     operators: Option<CommandListener>,
+    place: Option<PinsPlace<'s>>,
 ) -> Result<(), Refused> {
-    let served = start_and_answer(rt, scope, floor, clients, operators.as_ref());
+    let served = start_and_answer(rt, scope, floor, clients, operators.as_ref(), place);
     floor.stop();
     if let Some(listener) = operators {
         // A file that stays is replaced at the next start.
@@ -153,15 +194,26 @@ fn serve_in<'s, E, R: Host + Files, B: Naming + Send + Sync, G: SharedGate<R>>(
 }
 
 /// Starts all threads, and returns once the balancer is to end and operators are answered no more. Returning, it has let go of all
-/// channels, by whose ends checks and planners end.
-fn start_and_answer<'s, E, R: Host, D: Seating<R> + Send + Sync, G: SharedGate<R>>(
+/// channels, by whose ends checks and planners end, and what writes pins.
+fn start_and_answer<
+    's,
+    E,
+    R: Host + Files + TextFiles,
+    D: Seating<R> + Send + Sync,
+    G: SharedGate<R>,
+>(
     rt: &'s R,
     scope: &'s Scope<'s, E>,
     floor: &'s Floor<'s, D, G>,
     clients: Vec<ClientDoor>,
     operators: Option<&CommandListener>,
+    place: Option<PinsPlace<'s>>,
 ) -> Result<(), Refused> {
     let Started { bells, checks_end } = start(rt, scope, floor, clients)?;
+    let _saving = match place {
+        Some(place) => Some(start_saving(rt, scope, floor, place)?),
+        None => None,
+    };
     match operators {
         Some(listener) => Ok(answer_operators(rt, floor, listener, bells, checks_end)?),
         None => {

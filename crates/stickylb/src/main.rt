@@ -4,7 +4,7 @@
 
 use lb_cli::{Performed, end, perform};
 use lb_cli_start::{asked_job, command_line, texts_of};
-use lb_run::run_text;
+use lb_run::{PinsPlace, run_text_keeping};
 use std::marker::PhantomData;
 use std::net::{TcpListener, TcpStream};
 use std::process::ExitCode;
@@ -27,8 +27,15 @@ fn main(rt: HostRuntime) -> ExitCode {
     let (mut out, mut err) = (rt.stdout(), rt.stderr());
     match perform(rt.alloc(), &rt, job, &mut out, &mut err) {
         Performed::Ended(status) => ExitCode::from(status),
-        Performed::Run { file, text } => {
-            let done = run_text(&rt, rt.alloc(), &text, &mut out, &mut err);
+        Performed::Run { file, text, pins } => {
+            let place = match pins {
+                Some(pins) => Some(PinsPlace {
+                    path: pins.path,
+                    every: pins.every,
+                }),
+                None => None,
+            };
+            let done = run_text_keeping(&rt, rt.alloc(), &text, place, &mut out, &mut err);
             ExitCode::from(end(done, file, &mut err))
         }
     }

@@ -1,7 +1,7 @@
 use Rattle.std.proofs.Common.{ap, sym, subst, List}
 use Rattle.lb_config.specs.ConfigViews.{BackendView}
 use Rattle.lb_run_desks.specs.NewDesks.{Open, backend_at, journal_size_at, table_at}
-use Rattle.lb_run.proofs.running.run_config_past.Goals as goal
+use Rattle.lb_run.proofs.running.run_config_keeping.Goals as goal
 
 pub run_named-requires-clause-names : goal.run_named-requires-clause-names
 run_named-requires-clause-names g c κs within place desk at = (sym (ap table_at at), sym (ap backend_at at), sym (ap journal_size_at at))

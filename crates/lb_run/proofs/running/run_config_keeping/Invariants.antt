@@ -1,6 +1,6 @@
 use Rattle.std.proofs.Common.{slice_get}
 use Rattle.lb_run_desks.specs.NewDesks.{backend_at, journal_size_at, table_at}
-use Rattle.lb_run.proofs.running.run_config_past.Given as goal
+use Rattle.lb_run.proofs.running.run_config_keeping.Given as goal
 
 -- the name of the desks says of each what it is
 abbrev pub ghosts-run_named-B-Tables : goal.ghosts-run_named-B-Tables

@@ -1,0 +1,130 @@
+//! Writing the pins to their file, while the balancer runs and at its end.
+use crate::moments::now_on;
+use crate::tables::{Table, mark_of, pins_text};
+use crate::{PinsPlace, TextFiles, Unwritten};
+use crossbeam_channel::{Receiver, RecvTimeoutError, Sender, bounded};
+use lb_desk_steer::Steer;
+use lb_run_floor::{Desks, Floor, Host, Seating, SharedGate, leave_all, seats};
+use std::alloc::{AllocError, Global};
+use std::thread::Scope;
+use std::time::Duration;
+
+/// Starts the thread that writes the pins every so often, unless that is never. It ends once what is returned is let go.
+pub fn start_saving<'s, E, R: Host + TextFiles, D: Seating<R> + Send + Sync, G: SharedGate<R>>(
+    rt: &'s R,
+    scope: &'s Scope<'s, E>,
+    floor: &'s Floor<'s, D, G>,
+    place: PinsPlace<'s>,
+) -> Result<Sender<()>, AllocError> {
+    let (end, ends) = bounded(floor.alloc, 1)?;
+    if place.every > 0 {
+        scope.spawn(move || save_often(rt, floor, place, ends))?;
+    }
+    Ok(end)
+}
+
+/// Writes the pins to their file. A line on standard error says that they can't be written.
+pub fn save<R: Host + TextFiles, D: Seating<R>, G: Drop>(
+    rt: &R,
+    floor: &Floor<'_, D, G>,
+    place: PinsPlace<'_>,
+) {
+    let Ok(mut seats) = seats(rt, floor) else {
+        say_unwritten(rt, floor, place);
+        return;
+    };
+    save_changed(rt, floor, place, &mut seats, None);
+    leave_all(rt, floor, seats);
+}
+
+/// Writes the pins every so often, where they changed, until the balancer ends.
+fn save_often<R: Host + TextFiles, D: Seating<R>, G: Drop>(
+    rt: &R,
+    floor: &Floor<'_, D, G>,
+    place: PinsPlace<'_>,
+    ends: Receiver<()>,
+) {
+    let Ok(mut seats) = seats(rt, floor) else {
+        floor.starve();
+        return;
+    };
+    let every = Duration::from_millis(u64::from(place.every));
+    let mut written = None;
+    for _ in rt.forever() {
+        match ends.recv_timeout(rt, every) {
+            Err(RecvTimeoutError::Timeout) => {}
+            Ok(()) | Err(RecvTimeoutError::Disconnected) => break,
+        }
+        written = save_changed(rt, floor, place, &mut seats, written);
+    }
+    leave_all(rt, floor, seats);
+}
+
+/// Writes the pins, unless they are those that were written last. Returns the mark of those that the file has by now.
+fn save_changed<R: Host + TextFiles, D: Seating<R>, G: Drop>(
+    rt: &R,
+    floor: &Floor<'_, D, G>,
+    place: PinsPlace<'_>,
+    seats: &mut [D::Seat],
+    written: Option<u64>,
+) -> Option<u64> {
+    match try_save(rt, floor, place, seats, written) {
+        Ok(mark) => Some(mark),
+        Err(_) => {
+            say_unwritten(rt, floor, place);
+            written
+        }
+    }
+}
+
+/// The same. The error is that there is no memory, or that the file can't be written.
+fn try_save<R: Host + TextFiles, D: Seating<R>, G: Drop>(
+    rt: &R,
+    floor: &Floor<'_, D, G>,
+    place: PinsPlace<'_>,
+    seats: &mut [D::Seat],
+    written: Option<u64>,
+) -> Result<u64, Unwritten> {
+    let tables = copies(rt, floor, seats)?;
+    let mark = mark_of(&tables);
+    if written == Some(mark) {
+        return Ok(mark);
+    }
+    let text = pins_text(floor.alloc, &tables, now_on(rt, floor))?;
+    drop(tables);
+    rt.write_text(floor.alloc, place.path, &text)?;
+    Ok(mark)
+}
+
+/// Copies of the tables of all backends, in their order. Each desk is held for as long as an operator's `show table` holds it.
+fn copies<'a, R: Host, D: Seating<R>, G: Drop>(
+    rt: &R,
+    floor: &Floor<'a, D, G>,
+    seats: &mut [D::Seat],
+) -> Result<Vec<Table<'a>>, AllocError> {
+    let mut tables = Vec::with_capacity(floor.alloc, seats.len())?;
+    for (backend, seat) in floor.config.backends().iter().zip(seats) {
+        let pins = seat.rows(rt, floor.alloc)?;
+        tables.push(Table::new(backend, pins))?;
+    }
+    Ok(tables)
+}
+
+/// Says on standard error that the file can't be written.
+fn say_unwritten<R: Host, D: Desks, G: Drop>(
+    rt: &R,
+    floor: &Floor<'_, D, G>,
+    place: PinsPlace<'_>,
+) {
+    if let Ok(line) = unwritten_line(floor.alloc, place.path.as_bytes()) {
+        floor.reports.say(rt, &line);
+    }
+}
+
+fn unwritten_line(alloc: Global, path: &[u8]) -> Result<Vec<u8>, AllocError> {
+    let mut line = Vec::new(alloc);
+    line.extend_from_slice(b"cannot write ")?;
+    line.extend_from_slice(path)?;
+    line.extend_from_slice(b"\n")?;
+    Ok(line)
+}
