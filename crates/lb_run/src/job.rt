@@ -10,7 +10,7 @@ use lb_config_sections::{ConfigFault, LocatedFault};
 use lb_desk_ports::OpenGate;
 use lb_run_doors::handed_line;
 use lb_run_floor::Host;
-use lb_run_pins::{PinsFault, TextFault, read_pins};
+use lb_run_pins::{PinsFault, TextFault, TextFiles, read_pins};
 use std::alloc::{AllocError, Global};
 use std::env::Env;
 use std::fs::Files;
@@ -21,7 +21,7 @@ use std::io::Write;
 ///
 /// `OutOfMemory`: for the configuration, before anything ran, or in the run, whose threads were ended. `CannotRead`: the system's clock
 /// or its random numbers, before anything ran. `CannotWrite`: what is printed.
-pub fn run_text<R: Host + Files + Env, O: Write, E: Write>(
+pub fn run_text<R: Host + Files + TextFiles + Env, O: Write, E: Write>(
     rt: &R,
     alloc: Global,
     text: &[u8],
@@ -37,7 +37,7 @@ pub fn run_text<R: Host + Files + Env, O: Write, E: Write>(
 
 /// The same, where pins outlive the process, if a place for them is given. The file there is read before an address is bound. One that
 /// isn't there has no pins. One that can't be read, or that is no file of pins, is reported on `err`, and nothing runs.
-pub fn run_text_keeping<R: Host + Files + Env, O: Write, E: Write>(
+pub fn run_text_keeping<R: Host + Files + TextFiles + Env, O: Write, E: Write>(
     rt: &R,
     alloc: Global,
     text: &[u8],
@@ -57,7 +57,7 @@ pub fn run_text_keeping<R: Host + Files + Env, O: Write, E: Write>(
 }
 
 /// Reads the file of pins, if there is a place for one, and runs the configuration.
-fn read_and_run<R: Host + Files + Env, O: Write, E: Write>(
+fn read_and_run<R: Host + Files + TextFiles + Env, O: Write, E: Write>(
     rt: &R,
     alloc: Global,
     config: &Config,
@@ -83,7 +83,7 @@ fn read_and_run<R: Host + Files + Env, O: Write, E: Write>(
     }
 }
 
-fn run_and_report<R: Host + Files + Env, O: Write, E: Write>(
+fn run_and_report<R: Host + Files + TextFiles + Env, O: Write, E: Write>(
     rt: &R,
     alloc: Global,
     config: &Config,

@@ -23,5 +23,5 @@ mod streams;
 pub use fault::RunFault;
 pub use job::{run_text, run_text_keeping};
 pub use lb_run_floor::{Host, SharedGate};
-pub use lb_run_pins::{Kept, PinsPlace};
+pub use lb_run_pins::{Kept, PinsPlace, TextFiles};
 pub use running::{run_config, run_config_keeping, run_config_past};

@@ -36,7 +36,7 @@ use std::time::Instant;
 /// All addresses are bound before anything runs. A `bind` uses the socket that was handed over for its address, if there is one. So this
 /// is called once in a process. Standard error lists where clients can connect, and reports when a check makes a server go up or down.
 /// Requests whose head was read are finished before the end.
-pub fn run_config<R: Host + Files + Env, W: Write>(
+pub fn run_config<R: Host + Files + TextFiles + Env, W: Write>(
     rt: &R,
     alloc: Global,
     config: &Config,
@@ -48,7 +48,7 @@ pub fn run_config<R: Host + Files + Env, W: Write>(
 }
 
 /// The same, where workers, planners and operators' threads pass this gate at their points, so that a test can hold them there.
-pub fn run_config_past<R: Host + Files + Env, G: SharedGate<R>, W: Write>(
+pub fn run_config_past<R: Host + Files + TextFiles + Env, G: SharedGate<R>, W: Write>(
     rt: &R,
     alloc: Global,
     config: &Config,
@@ -63,7 +63,7 @@ pub fn run_config_past<R: Host + Files + Env, G: SharedGate<R>, W: Write>(
 /// The same, where pins outlive the process, if a file keeps them: its pins are set once all addresses are bound and before a client is
 /// accepted, and at the end the file is written, after all requests. A line on standard error says of each backend how many pins were kept
 /// and left out. The clocks of all threads begin as long before the start as the oldest pin was used, or as far back as the system's goes.
-pub fn run_config_keeping<R: Host + Files + Env, G: SharedGate<R>, W: Write>(
+pub fn run_config_keeping<R: Host + Files + TextFiles + Env, G: SharedGate<R>, W: Write>(
     rt: &R,
     alloc: Global,
     config: &Config,
