@@ -3,8 +3,8 @@ use Rattle.std.proofs.lemmas.List.{length_push}
 use Rattle.pin_file_return.proofs.Puttings.{next_left, one_more, others_do_not, pinned_counts, refused_then}
 use Rattle.pin_file_return.proofs.putting.return_pins.Goals as goal
 
-pub returns-in_err-set : goal.returns-in_err-set
-returns-in_err-set g c =
+pub returns-in_err-set-clause-sets : goal.returns-in_err-set-clause-sets
+returns-in_err-set-clause-sets g c =
     refused_then c.from_residual.result c.args.pins.items c.loop-pin.yielded c.loop-pin.pin-iterator.rest.items c.loop-pin.pinned
     (g.P.Port.entries c.args.port.now) (g.P.Port.entries c.loop-pin.port) (g.P.Port.entries c.set.new.self)
     c.from_residual.ensures.0 (sym c.loop-pin.invariant.0) c.loop-pin.invariant.1 c.in_err-set.ensures.entries
