@@ -155,7 +155,7 @@ class Farm:
         self.stack = contextlib.ExitStack()
         self.folder = Path(self.stack.enter_context(tempfile.TemporaryDirectory(prefix="balance.")))
         self.operators: Path | tuple[str, int] = self.folder / "operators"
-        # What stands on the command line behind the configuration.
+        # What stands on the command line after the configuration.
         self.words: tuple[str, ...] = ()
         self.origins = 0
         self.balancers = 0

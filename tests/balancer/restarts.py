@@ -33,7 +33,7 @@ def kept(farm: Farm, *more: str) -> Path:
 
 
 def pin_lines(text: str) -> list[str]:
-    """The lines of a file's pins. Fails unless the text is a whole file of one backend, by the grammar in docs/OPERATING.md."""
+    """The lines of a file's pins. Fails unless the text is a whole file of one backend, by the grammar in docs/RESTARTS.md."""
     found = re.fullmatch(r"stickypins 1\nbackend web\n((?:pin \S+ \S+ \S+ \d+ \d+\n)*)end\n", text)
     expect(f"a whole file: {text[:200]!r} .. {text[-100:]!r}", found is not None)
     assert found is not None

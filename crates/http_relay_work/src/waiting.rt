@@ -27,8 +27,8 @@ enum Word {
 /// The next connection to serve, or none if no more can come and all that were served are gone.
 ///
 /// A client that has reset its connection while it was in the line waits for no answer, so its connection is closed, and no server is
-/// asked. To see that costs a system call, which one that comes to a waiting worker doesn't need. A client that has only ended its
-/// own direction is served.
+/// asked. To see that costs a system call. It is left out where the client can't have waited for long: one that comes to a waiting
+/// worker, and all of a line that goes on quickly. A client that has only ended its own direction is served.
 pub(crate) fn next_arrival<R, S>(
     rt: &R,
     line: &WaitingLine<S>,
@@ -49,8 +49,9 @@ where
         let Some((arrival, word)) = arrival_of(rt, line, word) else {
             break;
         };
-        let is_there = word == Word::CameNow || !is_reset(&arrival.stream);
-        if is_there && !post.is_over() {
+        let may_be_gone = word == Word::WasThere && post.is_line_slow();
+        let is_gone = may_be_gone && is_reset(&arrival.stream);
+        if !is_gone && !post.is_over() {
             return Some(arrival);
         }
     }

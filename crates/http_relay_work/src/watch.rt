@@ -15,6 +15,12 @@ const LOOKS_BEFORE_CALLS: u32 = 2;
 /// After how many looks at a line that doesn't move more workers are called at each look.
 const LOOKS_BEFORE_MORE: u32 = 8;
 
+/// A line is slow if its last client's turn wouldn't come within so many looks, at the pace of the last one.
+const LOOKS_IN_LINE: u64 = 4;
+
+/// After how many looks at a line that isn't slow its clients haven't waited for long.
+const LOOKS_AFTER_SLOW: u32 = 20;
+
 /// After how many looks without anything to do the watch sleeps, until a request begins.
 const LOOKS_BEFORE_SLEEP: u32 = 20;
 
@@ -24,11 +30,11 @@ const SURPLUS_PARTS: usize = 32;
 /// Watches the workers of a balancer, and says when others have to be called.
 ///
 /// A worker that has the same request at two looks, 5 ms apart, counts as one that waits: for a server, in a queue, or for its client. So
-/// does one whose request began between them, if most that began so are still under way. All others are at work, or free. If clients
-/// are in the line and, at two looks in a row, fewer than half of `tune.relays` workers are at work, as many are called as are missing. From
-/// the eighth look in a row on, which a busy machine hardly causes, twice as many are called as at the last one, and half of that after each
-/// look at which enough are at work. Never are more called than clients are in the line. If more than `tune.relays` are at work, a part of
-/// those on call is sent to rest.
+/// does one whose request began between them, if most that began so are still under way. All others are at work, or free. The line is slow
+/// if its last client would wait there for more than 20 ms, at the pace of the last 5 ms. If it is slow and, at two looks in a row, fewer
+/// than half of `tune.relays` workers are at work, as many are called as are missing, until more are at work or the line is empty. From the
+/// eighth look in a row on twice as many are called as at the last one, and half of that after each look at which enough are at work. Never
+/// are more called than clients are in the line. If more than `tune.relays` are at work, a part of those on call is sent to rest.
 #[derive(Drop)]
 pub struct Watch<'a> {
     roster: &'a Roster,
@@ -43,6 +49,8 @@ pub struct Watch<'a> {
     pace: usize,
     /// At how many looks in a row there was nothing to do.
     calm: u32,
+    /// At how many looks in a row the line wasn't slow.
+    quick: u32,
 }
 
 /// What a look says of the workers.
@@ -102,6 +110,7 @@ impl<'a> Watch<'a> {
             stalls: 0,
             pace: 0,
             calm: 0,
+            quick: 0,
         })
     }
 
@@ -121,9 +130,22 @@ impl<'a> Watch<'a> {
         } else {
             0
         };
-        let is_stalled = in_line > 0 && at_work < relays.div_ceil(2);
+        let is_slow = in_line as u64 > look.begun.saturating_mul(LOOKS_IN_LINE);
+        self.note_slow(is_slow);
+        let goes_on = in_line > 0 && self.stalls >= LOOKS_BEFORE_CALLS;
+        let is_stalled = (is_slow || goes_on) && at_work < relays.div_ceil(2);
         self.calls(is_stalled, relays.saturating_sub(at_work))
             .min(in_line)
+    }
+
+    /// Notes whether the line is slow at this look.
+    fn note_slow(&mut self, is_slow: bool) {
+        self.quick = if is_slow {
+            0
+        } else {
+            self.quick.saturating_add(1)
+        };
+        self.roster.set_slow(self.quick < LOOKS_AFTER_SLOW);
     }
 
     /// How many are called after this look, at which so many were missing.
