@@ -1,4 +1,4 @@
-use Rattle.std.proofs.Common.{sym, arith}
+use Rattle.std.proofs.Common.{◌∙◌, sym, arith}
 use Rattle.std.proofs.lemmas.List.{length_push}
 use Rattle.pin_file_return.proofs.Puttings.{next_left, one_more, others_do_not, pinned_counts, refused_then}
 use Rattle.pin_file_return.proofs.putting.return_pins.Goals as goal
@@ -16,6 +16,7 @@ loop-pin-preserved-in-Pinned g c = (
   one_more c.loop-pin.yielded c.in-Some.pin c.loop-pin.pinned _ _ (g.P.Port.entries c.loop-pin.port) _ c.in_ok-set.field-0 c.loop-pin.invariant.1
       c.in_ok-set.ensures.entries (pinned_counts c.in_ok-set.field-0 c.in-Pinned.field-0 c.loop-pin.pinned c.in-Pinned.is),
   omega (arith, c.loop-pin.invariant.2, length_push c.loop-pin.yielded c.in-Some.pin),
+  c.in_ok-set.ensures.refusals ∙ c.loop-pin.invariant.3,
 )
 
 pub loop-pin-preserved : goal.loop-pin-preserved
@@ -25,4 +26,5 @@ loop-pin-preserved g c = (
   one_more c.loop-pin.yielded c.in-Some.pin c.loop-pin.pinned _ _ (g.P.Port.entries c.loop-pin.port) _ c.in_ok-set.field-0 c.loop-pin.invariant.1
       c.in_ok-set.ensures.entries (others_do_not c.in_ok-set.field-0 c.loop-pin.pinned c.in_default.not-Pinned),
   omega (arith, c.loop-pin.invariant.2, length_push c.loop-pin.yielded c.in-Some.pin),
+  c.in_ok-set.ensures.refusals ∙ c.loop-pin.invariant.3,
 )
