@@ -2,7 +2,7 @@
 //! `lb_cli` does the job that they ask for, and `lb_run` balances.
 #![tactic(auto)]
 
-use lb_cli::{Performed, end, perform};
+use lb_cli::{KeptPins, Performed, end, perform};
 use lb_cli_start::{asked_job, command_line, texts_of};
 use lb_run::{PinsPlace, run_text_keeping};
 use std::marker::PhantomData;
@@ -28,15 +28,16 @@ fn main(rt: HostRuntime) -> ExitCode {
     match perform(rt.alloc(), &rt, job, &mut out, &mut err) {
         Performed::Ended(status) => ExitCode::from(status),
         Performed::Run { file, text, pins } => {
-            let place = match pins {
-                Some(pins) => Some(PinsPlace {
-                    path: pins.path,
-                    every: pins.every,
-                }),
-                None => None,
-            };
-            let done = run_text_keeping(&rt, rt.alloc(), &text, place, &mut out, &mut err);
+            let done = run_text_keeping(&rt, rt.alloc(), &text, place_of(pins), &mut out, &mut err);
             ExitCode::from(end(done, file, &mut err))
         }
+    }
+}
+
+/// Where pins outlive the process, as `lb_run` takes it.
+fn place_of(pins: Option<KeptPins<'_>>) -> Option<PinsPlace<'_>> {
+    match pins {
+        Some(KeptPins { path, every }) => Some(PinsPlace { path, every }),
+        None => None,
     }
 }
