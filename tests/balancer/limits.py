@@ -78,7 +78,9 @@ def more_clients_than_workers_and_the_line_hold_are_served_in_the_end(farm: Farm
         late = stack.enter_context(socket.socket())
         late.bind((HOST, 0))
         late.listen(4096)
-        balancer = farm.start(listen(port, *LIMITS, server("a", late.getsockname()[1])), ("tune.relays 64",))
+        # To open so many connections takes long beside other cases.
+        patient = [f"timeout {kind} 120s" for kind in ("client", "connect", "server")]
+        balancer = farm.start(listen(port, *patient, server("a", late.getsockname()[1])), ("tune.relays 64",))
         # 2,112 workers wait for the server, 1,024 clients wait in the line, and the others as the system has it.
         clients = [stack.enter_context(Client(port)) for _ in range(3300)]
         for client in clients:

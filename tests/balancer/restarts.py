@@ -226,7 +226,8 @@ class Visitors:
 
     def go_on(self, number: int) -> None:
         dice = random.Random(number)
-        while not self.ending.is_set():
+        # Other cases run beside this one.
+        while not self.ending.wait(0.02):
             key = f"k{dice.randrange(self.keys)}"
             # Between two balancers nobody listens.
             with contextlib.suppress(OSError):
@@ -234,7 +235,7 @@ class Visitors:
 
     def wait_for_more(self, count: int) -> None:
         due = len(self.answers) + count
-        wait_until(f"{count} answers more", lambda: len(self.answers) >= due)
+        wait_until(f"{count} answers more", lambda: len(self.answers) >= due, 4 * PATIENCE)
 
     def end(self) -> list[tuple[str, bytes]]:
         self.ending.set()
@@ -251,11 +252,11 @@ def a_restart_under_load_moves_only_whom_it_must(farm: Farm) -> None:
     for gone, new in [("a", "d"), ("b", "e"), ("c", "a")]:
         balancer = farm.start(sections(port, **{name: at for name, at in origins.items() if name != new}))
         visitors = Visitors(port, 500)
-        visitors.wait_for_more(1500)
+        visitors.wait_for_more(1000)
         ended = balancer.stop()
         expect_equal("the status", ended.status, 0)
         balancer = farm.start(sections(port, **{name: at for name, at in origins.items() if name != gone}))
-        visitors.wait_for_more(1500)
+        visitors.wait_for_more(1000)
         last: dict[str, bytes] = {}
         moved = []
         for key, answer in visitors.end():
@@ -292,9 +293,11 @@ class Keepers:
     def go_on(self, number: int) -> None:
         keys = [f"k{key}" for key in range(number, self.KEYS, self.CLIENTS)]
         dice = random.Random(number)
+        # Other cases run beside this one.
         for key in keys:
             self.ask(key)
-        while not self.ending.is_set():
+            self.ending.wait(0.1)
+        while not self.ending.wait(0.1):
             self.ask(dice.choice(keys))
 
     def ask(self, key: str) -> None:
@@ -313,7 +316,7 @@ class Keepers:
 
     def wait_for_more(self, count: int) -> None:
         due = self.asked + count
-        wait_until(f"{count} answers more", lambda: self.asked >= due or bool(self.wrong))
+        wait_until(f"{count} answers more", lambda: self.asked >= due or bool(self.wrong), 4 * PATIENCE)
 
     def end(self) -> None:
         self.ending.set()
@@ -354,7 +357,7 @@ def ten_restarts_of_the_unit_move_only_clients_whose_server_is_gone_and_refuse_n
 
     process = start(names)
     keepers.start()
-    wait_until("each key has a pin", lambda: len(keepers.last) == keepers.KEYS or bool(keepers.wrong))
+    wait_until("each key has a pin", lambda: len(keepers.last) == keepers.KEYS or bool(keepers.wrong), 4 * PATIENCE)
     for turn in range(10):
         process.send_signal(signal.SIGTERM)
         expect_equal("the status at the end", process.wait(PATIENCE), 0)

@@ -1,7 +1,7 @@
 use crate::farm::{Sockets, ask, free_port, local, originate};
 use http_relay_listen::listen;
 use lb_config::{Config, read_config};
-use lb_run::{Host, run_config, run_text};
+use lb_run::{Host, TextFiles, run_config, run_text};
 use std::alloc::Global;
 use std::env::Env;
 use std::fs::Files;
@@ -66,7 +66,7 @@ fn clients_day<R: Host>(
     })
 }
 
-fn run<R: Host + Files + Env>(
+fn run<R: Host + Files + TextFiles + Env>(
     rt: &R,
     alloc: Global,
     config: &Config,

@@ -3,7 +3,7 @@ use crate::farm::{Sockets, answer_to, free_port, local, originate};
 use http_relay_listen::listen;
 use lb_config::{Config, read_config};
 use lb_desk_ports::{Gate, Point};
-use lb_run::{Host, run_config_past};
+use lb_run::{Host, TextFiles, run_config_past};
 use std::alloc::Global;
 use std::env::Env;
 use std::fs::Files;
@@ -130,7 +130,7 @@ fn day_and_end<R: Host>(
     told
 }
 
-fn run<R: Host + Files + Env>(
+fn run<R: Host + Files + TextFiles + Env>(
     rt: &R,
     alloc: Global,
     config: &Config,
