@@ -2,6 +2,7 @@
 
 from __future__ import annotations
 
+import contextlib
 import socket
 import threading
 import time
@@ -149,6 +150,37 @@ def a_stop_waits_for_a_body_that_drips_no_longer_than_the_clients_limit(farm: Fa
             took = time.monotonic() - begin
     expect_between("it ends after the limit, and not before", 1.5, took, 6)
     expect_equal("the end", (ended.status, ended.out), (0, "closed web events 8 rising yes\n"))
+
+
+def takes_slowly(client: Client, over: threading.Event) -> None:
+    """Takes at most 2 MB of the answer a second: enough that the system's buffers have room again within the limit of a write."""
+    with contextlib.suppress(OSError):
+        while not over.wait(0.05) and client.stream.recv(100_000) != b"":
+            pass
+
+
+@case
+def a_stop_waits_for_a_client_that_takes_its_answer_slowly_no_longer_than_its_limit(farm: Farm) -> None:
+    def handle(talk: Talk) -> None:
+        if talk.read_request():
+            talk.send(b"HTTP/1.1 200 OK\r\nContent-Length: 64000000\r\n\r\n" + bytes(64_000_000))
+
+    port, over = farm.port(), threading.Event()
+    balancer = farm.start(listen(port, "timeout client 2s", "timeout server 20s", server("a", farm.origin(handle))))
+    with Client(port) as client:
+        client.send(GET)
+        reader = threading.Thread(target=takes_slowly, args=(client, over), daemon=True)
+        reader.start()
+        threading.Event().wait(3)
+        expect("it may read for longer than the limit", not balancer.has_ended())
+        expect_equal("the answer to `stop`", balancer.tell("stop"), "\n")
+        begin = time.monotonic()
+        ended = balancer.wait()
+        took = time.monotonic() - begin
+        over.set()
+        reader.join(PATIENCE)
+    expect_between("it ends after the limit, and not before", 1.5, took, 6)
+    expect_equal("the end", (ended.status, ended.out), (0, "closed web events 4 rising yes\n"))
 
 
 @case

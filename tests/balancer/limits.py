@@ -63,8 +63,8 @@ def too_many_open_files_end_nothing_and_silent_clients_keep_nobody_out(farm: Far
         wait_until("another one is served", lambda: ask(port, GET) == A)
         for client in clients:
             client.send_what_is_taken(GET)
-            # Silent clients may be let go as if their limit were over, and a dial may find no descriptor.
-            expect("it is answered", client.read_to_end() in (A, own(408), own(503)))
+            # Silent clients may be let go as if their limit were over. A dial finds its descriptor.
+            expect("it is answered", client.read_to_end() in (A, own(408)))
             client.stream.close()
     wait_until("descriptors are free again", lambda: balancer.descriptors() < most - 4)
     expect_equal("the answer to another client", ask(port, GET), A)

@@ -10,6 +10,7 @@ import re
 import shutil
 import socket
 import subprocess
+from collections.abc import Callable
 from pathlib import Path
 
 from .cases import PATIENCE, case, expect, expect_equal, wait_until
@@ -105,18 +106,25 @@ def replies(entries: list[str], clients: set[int]) -> set[str]:
     return {it[2] for it in found if it and int(it[1]) in clients}
 
 
+def starter(farm: Farm, *words: str) -> Callable[[str, int], Balancer]:
+    """Starts a balancer of this name at a port, all of them with the same servers. `NAME` in the words is the name."""
+    servers = [server(name, farm.origin(), "maxpins 1000") for name in ("a", "b", "c", "d")]
+    lines = ("stick-table type string size 1000", "stick on hdr(x-id)", *LIMITS, *servers)
+
+    def start(name: str, port: int) -> Balancer:
+        farm.operators = farm.folder / name
+        farm.words = tuple(word.replace("NAME", name) for word in words)
+        return farm.start(listen(port, *lines), ("tune.relays 16",))
+
+    return start
+
+
 @case
 def of_two_balancers_behind_nginx_one_is_lost_and_its_clients_alone_lose_their_pins(farm: Farm) -> None:
     if lacks_stream(farm):
         return
-    servers = [server(name, farm.origin(), "maxpins 1000") for name in ("a", "b", "c", "d")]
-    lines = ("stick-table type string size 1000", "stick on hdr(x-id)", *LIMITS, *servers)
     ports = farm.port(), farm.port()
-
-    def start(name: str, port: int) -> Balancer:
-        farm.operators = farm.folder / name
-        return farm.start(listen(port, *lines), ("tune.relays 16",))
-
+    start = starter(farm)
     first, second = start("first", ports[0]), start("second", ports[1])
     front = Front(farm, *ports)
     everyone = set(range(CLIENTS))
@@ -151,3 +159,30 @@ def of_two_balancers_behind_nginx_one_is_lost_and_its_clients_alone_lose_their_p
     expect("each client stays at its server", front.ask_all() == settled)
     ends_well(second)
     ends_well(spare)
+
+
+@case
+def a_spare_with_the_pins_of_the_lost_balancer_sends_its_clients_where_they_were(farm: Farm) -> None:
+    if lacks_stream(farm):
+        return
+    ports = farm.port(), farm.port()
+    start = starter(farm, "--pins", f"{farm.folder}/NAME.pins", "--pins-every", "100ms")
+    first, second = start("first", ports[0]), start("second", ports[1])
+    front = Front(farm, *ports)
+    at = front.ask_all()
+    of_first = clients_of(first)
+    kept = farm.folder / "first.pins"
+    wait_until("all its pins are in its file", lambda: kept.exists() and kept.read_text().count("\npin ") == len(of_first))
+    first.end()
+
+    # One of its clients comes to the other balancer meanwhile.
+    one = min(of_first)
+    front.ask(one)
+    expect("it has a pin there", one in clients_of(second))
+    shutil.copy(kept, farm.folder / "spare.pins")
+    spare = start("spare", ports[0])
+    wait_until("nginx has found the spare", lambda: front.ask(one) != "" and "serve " in "".join(spare.events("web")))
+    expect("each client is at its server of before", front.ask_all() == at)
+    expect_equal("clients of the spare", clients_of(spare), of_first)
+    ends_well(second, whole=False)
+    ends_well(spare, whole=False)

@@ -14,7 +14,7 @@ from collections.abc import Iterable
 from pathlib import Path
 
 from .cases import PATIENCE, case, expect, expect_equal, wait_until
-from .clients import at_once, get
+from .clients import ask_operator, at_once, get
 from .farms import HOST, LIMITS, TABLE, Balancer, Ending, Farm, ends_well, listen, section, server
 from .handed_over import listening, port_of, words_over
 from .origins import Origin, response
@@ -219,6 +219,8 @@ class Visitors:
     def __init__(self, port: int, keys: int) -> None:
         self.port, self.keys = port, keys
         self.answers: list[tuple[str, bytes]] = []
+        # When each key was answered first.
+        self.first: dict[str, float] = {}
         self.ending = threading.Event()
         self.threads = [threading.Thread(target=self.go_on, args=(number,), daemon=True) for number in range(8)]
         for thread in self.threads:
@@ -231,7 +233,10 @@ class Visitors:
             key = f"k{dice.randrange(self.keys)}"
             # Between two balancers nobody listens.
             with contextlib.suppress(OSError):
-                self.answers.append((key, get(self.port, f"x-id: {key}")))
+                answer = get(self.port, f"x-id: {key}")
+                self.answers.append((key, answer))
+                if answer != b"":
+                    self.first.setdefault(key, time.monotonic())
 
     def wait_for_more(self, count: int) -> None:
         due = len(self.answers) + count
@@ -283,6 +288,9 @@ class Keepers:
         self.last: dict[str, bytes] = {}
         self.wrong: list[str] = []
         self.asked = 0
+        # The keys that were asked for, each before its request, and each client's last one.
+        self.begun: list[str] = []
+        self.latest: dict[int, str] = {}
         self.ending = threading.Event()
         self.threads = [threading.Thread(target=self.go_on, args=(number,), daemon=True) for number in range(self.CLIENTS)]
 
@@ -295,13 +303,15 @@ class Keepers:
         dice = random.Random(number)
         # Other cases run beside this one.
         for key in keys:
-            self.ask(key)
+            self.ask(number, key)
             self.ending.wait(0.1)
         while not self.ending.wait(0.1):
-            self.ask(dice.choice(keys))
+            self.ask(number, dice.choice(keys))
 
-    def ask(self, key: str) -> None:
+    def ask(self, number: int, key: str) -> None:
         present = self.present
+        self.latest[number] = key
+        self.begun.append(key)
         try:
             answer = get(self.port, f"x-id: {key}")
         except OSError as error:
@@ -341,6 +351,12 @@ class Unit:
         out, passed = self.farm.folder / "script.out", (self.holder.fileno(),)
         return launch(self.farm, self.words, out, self.err, os.environ | {"LISTEN_FDS": "1"}, passed)
 
+    def table(self) -> list[tuple[str, str]]:
+        """The key and the server of each pin, in order of last use; none where no operator is answered yet."""
+        with contextlib.suppress(OSError):
+            return places(ask_operator(self.farm.operators, b"show table web\n").decode())
+        return []
+
 
 @case
 def ten_restarts_of_the_unit_move_only_clients_whose_server_is_gone_and_refuse_nobody(farm: Farm) -> None:
@@ -361,11 +377,21 @@ def ten_restarts_of_the_unit_move_only_clients_whose_server_is_gone_and_refuse_n
     for turn in range(10):
         process.send_signal(signal.SIGTERM)
         expect_equal("the status at the end", process.wait(PATIENCE), 0)
-        order = [line.split()[1:4:2] for line in pin_lines(unit.path.read_text())]
+        order = [(key, place) for _, key, _, place, _, _ in map(str.split, pin_lines(unit.path.read_text()))]
         names = names[1:] + every[turn + 4]
+        # What may be used from now on: the keys whose requests wait in the socket, and those to come.
+        mark = len(keepers.begun)
+        used = set(keepers.latest.values())
         process = start(names)
         left_out = sum(place not in names for _, place in order)
         wait_until("the pins are back", lambda: f"pins web kept {len(order) - left_out} left out {left_out}\n" in unit.err.read_text())
+        wait_until("operators are answered", lambda: unit.table() != [])
+        table = unit.table()
+        used |= set(keepers.begun[mark:])
+        due = [(key, place) for key, place in order if place in names and key not in used]
+        seen = [(key, place) for key, place in table if key not in used]
+        differ = [it for it in zip(seen, due) if it[0] != it[1]]
+        expect_equal("the order of last use", (differ[:3], len(seen)), ([], len(due)))
         keepers.wait_for_more(1_000)
     keepers.end()
     process.send_signal(signal.SIGTERM)
@@ -392,12 +418,20 @@ def a_balancer_that_is_killed_while_it_writes_leaves_a_whole_file(farm: Farm) ->
     port, a, b = farm.port(), farm.origin(), farm.origin()
     path = kept(farm, "--pins-every", "1ms")
     path.write_text("stickypins 1\nbackend web\n" + "".join(f"pin first{number} - a 1 1\n" for number in range(900)) + "end\n")
-    dice = random.Random(1)
+    dice, broken_off = random.Random(1), 0
     for turn in range(200):
         balancer = farm.start(sections(port, a=a, b=b))
         expect("all come back", reports_of(balancer)[0].endswith(" left out 0"))
         visitors = Visitors(port, 100)
-        time.sleep(dice.uniform(0, 0.2))
+        # Some run for longer than a second, in which a write is done on a machine that is busy with other cases too.
+        time.sleep(dice.uniform(0, 0.2) if turn % 20 else 2)
+        killed = time.monotonic()
         balancer.end(signal.SIGKILL)
         visitors.end()
-        expect(f"turn {turn}: the pins of the start", len(pin_lines(path.read_text())) >= 900)
+        broken_off += path.with_name("pins.new").exists()
+        pins = pin_lines(path.read_text())
+        expect(f"turn {turn}: the pins of the start", len(pins) >= 900)
+        there = {line.split()[1] for line in pins}
+        due = {key for key, first in visitors.first.items() if first < killed - 1}
+        expect_equal(f"turn {turn}: pins that are older than a second and aren't there", due - there, set())
+    expect("a write was under way at some of these ends", broken_off > 0)

@@ -197,9 +197,10 @@ def plan_of(web: WebFarm, backend: str) -> str:
 def the_farms_servers_have_room_for_pins_and_stand_by_as_their_lines_say(farm: Farm) -> None:
     web = WebFarm(farm)
     pages = ("page1", "page2", "page3", "page4")
-    caps = (200000, 200000, 200000, 100000)
+    caps = (200000, 200000, 200000, 410000)
     # A full table then drops a pin before its servers refuse a new one, also if a server is lost. The table's size is below.
     expect("room for the table's pins without any server", sum(caps) - max(caps) >= 409600)
+    expect("room for them at the server that a rule names", caps[3] >= 409600)
     rooms = "".join(f"server {name} cap {cap} price 0\n" for name, cap in zip(pages, caps))
     expect_equal("the pages", plan_of(web, "pages"), f"stickyplan 1\nversion N\n{rooms}server sorry off\nend\n\n")
     rooms = "server api1 cap 102400 price 0\nserver api2 cap 102400 price 0\n"
@@ -221,18 +222,20 @@ def the_farms_servers_have_room_for_pins_and_stand_by_as_their_lines_say(farm: F
 
 
 @case
-def visitors_and_api_clients_of_the_farm_are_moved_as_soon_as_a_server_drains(farm: Farm) -> None:
+def api_clients_of_the_farm_are_moved_as_soon_as_a_server_drains_and_visitors_by_a_plan(farm: Farm) -> None:
     web = WebFarm(farm)
     expect_equal("a visitor", web.ask(ELSEWHERE, "GET", "/", "Cookie: shop_session=s"), "page1")
     expect_equal("an API client", web.ask(ELSEWHERE, "GET", "/api/", "X-Token: t"), "api1")
     expect_equal("one of the tools", web.ask(OFFICE, "GET", "/", door="127.20.0.2:8081"), "tools1")
     for name in ("pages/page1", "api/api1", "tools/tools1"):
         expect_equal(f"{name} drains", web.balancer.tell(f"set server {name} state drain"), "\n")
-    for backend in ("pages", "api"):
-        wait_until(
-            f"a plan of {backend} moves the pin",
-            lambda: any(it.endswith("-> installed pins 1 unplaced 0 moved 1") for it in web.balancer.events(backend)),
-        )
+    wait_until(
+        "a plan of the API moves the pin",
+        lambda: any(it.endswith("-> installed pins 1 unplaced 0 moved 1") for it in web.balancer.events("api")),
+    )
+    expect_equal("the visitor stays", web.ask(ELSEWHERE, "GET", "/", "Cookie: shop_session=s"), "page1")
+    expect_equal("a plan", web.balancer.tell("plan backend pages"), "pins 1 unplaced 0 moved 1\n\n")
+    expect("the visitor moved", web.ask(ELSEWHERE, "GET", "/", "Cookie: shop_session=s") in ("page2", "page3", "page4"))
     expect_equal("the API client", web.ask(ELSEWHERE, "GET", "/api/", "X-Token: t"), "api2")
     expect_equal("what had moved before", web.served("api")[-1], "serve N t -> served api2 kept")
     expect("the tools make no plan", not any(it.startswith("install ") for it in web.balancer.events("tools")))

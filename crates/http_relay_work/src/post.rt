@@ -57,11 +57,6 @@ impl<'a> Post<'a> {
         }
     }
 
-    /// Whether a client that was in the line may have waited for long.
-    pub(crate) fn is_line_slow(&self) -> bool {
-        self.roster.is_slow()
-    }
-
     /// Whether this worker has to rest.
     pub(crate) fn is_surplus(&self) -> bool {
         self.roster.take_surplus()

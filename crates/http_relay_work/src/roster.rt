@@ -25,8 +25,6 @@ pub struct Roster {
     surplus: AtomicUsize,
     /// Whether the workers are watched. If they aren't, the begin of a request rings.
     is_watched: AtomicBool,
-    /// Whether clients may have waited in the line for long.
-    is_slow: AtomicBool,
     bell: Parker,
 }
 
@@ -48,7 +46,6 @@ impl Roster {
             resting: AtomicUsize::new(0),
             surplus: AtomicUsize::new(0),
             is_watched: AtomicBool::new(false),
-            is_slow: AtomicBool::new(true),
             bell: Parker::new(),
         })
     }
@@ -119,16 +116,6 @@ impl Roster {
     /// Has so many workers on call rest after their requests.
     pub(crate) fn set_surplus(&self, count: usize) {
         self.surplus.store(count, Ordering::SeqCst);
-    }
-
-    /// Notes whether clients may have waited in the line for long.
-    pub(crate) fn set_slow(&self, is_slow: bool) {
-        self.is_slow.store(is_slow, Ordering::SeqCst);
-    }
-
-    /// Whether clients may have waited in the line for long.
-    pub(crate) fn is_slow(&self) -> bool {
-        self.is_slow.load(Ordering::SeqCst)
     }
 
     /// Sleeps until a request begins or the bell rings, unless a request began after the last look.

@@ -15,20 +15,10 @@ const TICK_MILLIS: u64 = 20;
 /// For how many milliseconds a worker on call is at the line without a client before it rests.
 const STAY_MILLIS: u64 = 1000;
 
-/// A word that came over a channel.
-#[derive(Clone, Copy, Debug, PartialEq, Eq)]
-enum Word {
-    /// It came while the worker waited for it.
-    CameNow,
-    /// It was there before.
-    WasThere,
-}
-
 /// The next connection to serve, or none if no more can come and all that were served are gone.
 ///
-/// A client that has reset its connection while it was in the line waits for no answer, so its connection is closed, and no server is
-/// asked. To see that costs a system call. It is left out where the client can't have waited for long: one that comes to a waiting
-/// worker, and all of a line that goes on quickly. A client that has only ended its own direction is served.
+/// A client that has reset its connection meanwhile waits for no answer, so its connection is closed, and no server is asked. To see that
+/// costs a system call. A client that has only ended its own direction is served.
 pub(crate) fn next_arrival<R, S>(
     rt: &R,
     line: &WaitingLine<S>,
@@ -42,16 +32,17 @@ where
 {
     leavers.look_at_older(rt, room);
     for _ in rt.forever() {
-        let word = match post.calls {
+        let has_come = match post.calls {
             None => next_of(rt, line.words(), leavers, room),
             Some(calls) => next_on_call(rt, line, post, calls, leavers, room),
         };
-        let Some((arrival, word)) = arrival_of(rt, line, word) else {
+        if !has_come {
+            break;
+        }
+        let Some(arrival) = line.take(rt) else {
             break;
         };
-        let may_be_gone = word == Word::WasThere && post.is_line_slow();
-        let is_gone = may_be_gone && is_reset(&arrival.stream);
-        if !is_gone && !post.is_over() {
+        if !is_reset(&arrival.stream) && !post.is_over() {
             return Some(arrival);
         }
     }
@@ -59,56 +50,36 @@ where
     None
 }
 
-/// The connection for this word.
-fn arrival_of<R: Wait, S: Drop>(
-    rt: &R,
-    line: &WaitingLine<S>,
-    word: Option<Word>,
-) -> Option<(Arrival<S>, Word)> {
-    let word = word?;
-    Some((line.take(rt)?, word))
-}
-
 /// Whether the client has reset its connection: the system then keeps an error for it. Bytes that came before aren't read.
 fn is_reset<S: OpenStream>(stream: &S) -> bool {
     matches!(stream.take_error(), Ok(Some(_)))
 }
 
-/// What comes next over the channel, or none if nothing more can come.
+/// Waits for the next word over the channel. Says whether it came: otherwise nothing more can come.
 fn next_of<R, S>(
     rt: &R,
     from: &Receiver<()>,
     leavers: &mut Leavers<S>,
     room: &mut [u8; HEAD_ROOM],
-) -> Option<Word>
+) -> bool
 where
     R: Clock + Wait,
     S: Read + Write + OpenStream + Drop,
 {
     for _ in rt.forever() {
-        let word = word_of(from);
         if leavers.is_empty() {
-            return from.recv(rt).ok().map(|()| word);
+            return from.recv(rt).is_ok();
         }
         match from.recv_timeout(rt, Duration::from_millis(TICK_MILLIS)) {
-            Ok(()) => return Some(word),
+            Ok(()) => return true,
             Err(RecvTimeoutError::Timeout) => leavers.look(rt, usize::MAX, room),
             Err(RecvTimeoutError::Disconnected) => break,
         }
     }
-    None
+    false
 }
 
-/// What the next word that is taken from the channel is.
-fn word_of(from: &Receiver<()>) -> Word {
-    if from.is_empty() {
-        Word::CameNow
-    } else {
-        Word::WasThere
-    }
-}
-
-/// The next word for a worker on call. It rests first if it is one too many, or if nothing came for a while.
+/// The same for a worker on call. It rests first if it is one too many, or if nothing came for a while.
 fn next_on_call<R, S>(
     rt: &R,
     line: &WaitingLine<S>,
@@ -116,7 +87,7 @@ fn next_on_call<R, S>(
     calls: &Receiver<()>,
     leavers: &mut Leavers<S>,
     room: &mut [u8; HEAD_ROOM],
-) -> Option<Word>
+) -> bool
 where
     R: Clock + Wait,
     S: Read + Write + OpenStream + Drop,
@@ -131,15 +102,14 @@ where
         } else {
             TICK_MILLIS
         };
-        let word = word_of(line.words());
         rests = match line.words().recv_timeout(rt, Duration::from_millis(wait)) {
-            Ok(()) => return Some(word),
+            Ok(()) => return true,
             Err(RecvTimeoutError::Timeout) => leavers.is_empty(),
             Err(RecvTimeoutError::Disconnected) => break,
         };
         leavers.look(rt, usize::MAX, room);
     }
-    None
+    false
 }
 
 /// Rests until the worker is called. Says whether it was: otherwise no more calls can come.
@@ -155,7 +125,7 @@ where
     S: Read + Write + OpenStream + Drop,
 {
     post.lie_down();
-    let is_called = next_of(rt, calls, leavers, room).is_some();
+    let is_called = next_of(rt, calls, leavers, room);
     if !is_called {
         post.rise();
     }

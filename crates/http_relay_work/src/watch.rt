@@ -18,9 +18,6 @@ const LOOKS_BEFORE_MORE: u32 = 8;
 /// A line is slow if its last client's turn wouldn't come within so many looks, at the pace of the last one.
 const LOOKS_IN_LINE: u64 = 4;
 
-/// After how many looks at a line that isn't slow its clients haven't waited for long.
-const LOOKS_AFTER_SLOW: u32 = 20;
-
 /// After how many looks without anything to do the watch sleeps, until a request begins.
 const LOOKS_BEFORE_SLEEP: u32 = 20;
 
@@ -49,8 +46,6 @@ pub struct Watch<'a> {
     pace: usize,
     /// At how many looks in a row there was nothing to do.
     calm: u32,
-    /// At how many looks in a row the line wasn't slow.
-    quick: u32,
 }
 
 /// What a look says of the workers.
@@ -110,7 +105,6 @@ impl<'a> Watch<'a> {
             stalls: 0,
             pace: 0,
             calm: 0,
-            quick: 0,
         })
     }
 
@@ -131,21 +125,10 @@ impl<'a> Watch<'a> {
             0
         };
         let is_slow = in_line as u64 > look.begun.saturating_mul(LOOKS_IN_LINE);
-        self.note_slow(is_slow);
         let goes_on = in_line > 0 && self.stalls >= LOOKS_BEFORE_CALLS;
         let is_stalled = (is_slow || goes_on) && at_work < relays.div_ceil(2);
         self.calls(is_stalled, relays.saturating_sub(at_work))
             .min(in_line)
-    }
-
-    /// Notes whether the line is slow at this look.
-    fn note_slow(&mut self, is_slow: bool) {
-        self.quick = if is_slow {
-            0
-        } else {
-            self.quick.saturating_add(1)
-        };
-        self.roster.set_slow(self.quick < LOOKS_AFTER_SLOW);
     }
 
     /// How many are called after this look, at which so many were missing.

@@ -35,16 +35,17 @@ pub fn are_below(servers: &[ServerId], count: usize) -> bool
     servers.iter().all(|server| server.index() < count)
 }
 
-/// Whether each server of the set is one of the first `count`. It looks once at each server that none of these is.
+/// Whether each server of the set is one of the first `count`. It looks at each of these once.
 pub fn are_members_below(set: ServerSet, count: usize) -> bool
     ensures { IsTrue result ↔ All (λ server. server < count) (members set) }
 {
-    for i in count..MAX_SERVERS {
+    let mut below = 0;
+    for i in 0..count.min(MAX_SERVERS) {
         if set.has(ServerId::new(i as u8)) {
-            return false;
+            below += 1;
         }
     }
-    true
+    below == set.len()
 }
 
 /// The set's first server from number `from` on and below `end`, in the configuration's order.

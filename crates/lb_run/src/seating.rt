@@ -1,5 +1,5 @@
 //! The desks that run, as threads take seats at them.
-ghost use Rattle.std.specs.Prelude.{◌≡◌, ℕ, length, IfOk};
+ghost use Rattle.std.specs.Prelude.{◌≡◌, ◌≤◌, ℕ, length, IfOk, IfErr, OnErr};
 ghost use Rattle.lb_desk_seat.specs.Seats.{SeatView};
 ghost use Rattle.lb_run_floor.specs.Seating.{StandInOrder};
 
@@ -34,7 +34,8 @@ impl<'a, B: Naming> RunDesks<'a, B> {
     }
 
     fn take_seat<R: Wait>(&self, rt: &R, number: usize) -> Result<RunSeat<'a, B>, Refused>
-        ensures { IfOk result (λ seat. seat.pass.keeper ≡ number) }
+        ensures desk { IfOk result (λ seat. seat.pass.keeper ≡ number) }
+        ensures no_desk { OnErr result (length self.now.desks.now ≤ number) }
     {
         let Some(desk) = self.desks.get(number) else {
             return Err(Refused::Memory);
@@ -45,6 +46,7 @@ impl<'a, B: Naming> RunDesks<'a, B> {
     fn take_seats<R: Wait>(&self, rt: &R) -> Result<Vec<RunSeat<'a, B>>, Refused>
         ensures count { IfOk result (λ seats. length seats.items ≡ length self.now.desks.now) }
         ensures order { IfOk result (λ seats. StandInOrder (λ (seat : SeatView). seat.pass.keeper) seats.items) }
+        ensures memory { IfErr result (λ refused. refused ≡ Refused.Memory) }
     {
         let mut seats = Vec::with_capacity(self.alloc, self.desks.len())?;
         for desk in self.desks {

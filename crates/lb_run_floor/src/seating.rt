@@ -1,4 +1,4 @@
-ghost use Rattle.std.specs.Prelude.{◌≡◌, ℕ, length, IfOk};
+ghost use Rattle.std.specs.Prelude.{◌≡◌, ◌≤◌, ℕ, length, IfOk, IfErr, OnErr};
 ghost use Rattle.lb_run_floor.specs.Seating.{StandInOrder};
 
 use lb_desk_ports::{Port, Refused};
@@ -18,14 +18,16 @@ pub trait Seating<R>: Desks {
     /// The number of the desk that the seat is at.
     ghost desk_of: { Self.Seat → ℕ };
 
-    /// A seat at the desk of this number. Refused if no desk has the number.
+    /// A seat at the desk of this number. Refused only if no desk has the number.
     fn seat_at(&self, rt: &R, number: usize) -> Result<Self::Seat, Refused>
-        ensures { IfOk result (λ seat. desk_of seat ≡ number) };
+        ensures desk { IfOk result (λ seat. desk_of seat ≡ number) }
+        ensures no_desk { OnErr result (Self.count self.now ≤ number) };
 
-    /// A seat at each desk, in the order of their numbers. Refused when out of memory.
+    /// A seat at each desk, in the order of their numbers. Refused only when out of memory.
     fn seats(&self, rt: &R) -> Result<Vec<Self::Seat>, Refused>
         ensures count { IfOk result (λ seats. length seats.items ≡ Self.count self.now) }
-        ensures order { IfOk result (λ seats. StandInOrder desk_of seats.items) };
+        ensures order { IfOk result (λ seats. StandInOrder desk_of seats.items) }
+        ensures memory { IfErr result (λ refused. refused ≡ Refused.Memory) };
 
     /// Takes a seat that its thread leaves.
     fn leave(&self, rt: &R, seat: Self::Seat);

@@ -1,5 +1,5 @@
 //! Taking seats, and leaving them.
-ghost use Rattle.std.specs.Prelude.{◌≡◌, length, slice_get, IfOk};
+ghost use Rattle.std.specs.Prelude.{◌≡◌, ◌≤◌, length, slice_get, IfOk, IfErr, OnErr};
 ghost use Rattle.std.specs.Option.{option_copied};
 ghost use Rattle.lb_run_floor.specs.Seating.{StandInOrder};
 
@@ -7,24 +7,26 @@ use crate::{Desks, Floor, Seating};
 use lb_config::BackendConfig;
 use lb_desk_ports::Refused;
 
-/// A seat at the desk of the backend at this place, if there is one.
+/// A seat at the desk of the backend at this place. Refused only if there is no backend at the place.
 pub fn seat_at<R, D: Seating<R>, G: Drop>(
     rt: &R,
     floor: &Floor<'_, D, G>,
     place: usize,
 ) -> Result<D::Seat, Refused>
-    ensures { IfOk result (λ seat. D.desk_of seat ≡ place) }
+    ensures desk { IfOk result (λ seat. D.desk_of seat ≡ place) }
+    ensures no_backend { OnErr result (length floor.now.config.now.backends ≤ place) }
 {
     floor.desks.seat_at(rt, place)
 }
 
-/// A seat at each desk, in the order of the backends.
+/// A seat at each desk, in the order of the backends. Refused only when out of memory.
 pub fn seats<R, D: Seating<R>, G: Drop>(
     rt: &R,
     floor: &Floor<'_, D, G>,
 ) -> Result<Vec<D::Seat>, Refused>
     ensures count { IfOk result (λ seats. length seats.items ≡ length floor.now.config.now.backends) }
     ensures order { IfOk result (λ seats. StandInOrder D.desk_of seats.items) }
+    ensures memory { IfErr result (λ refused. refused ≡ Refused.Memory) }
 {
     floor.desks.seats(rt)
 }

@@ -1,5 +1,5 @@
 //! Pins that come back to their desks.
-ghost use Rattle.std.specs.Prelude.{◌≡◌, IfOk};
+ghost use Rattle.std.specs.Prelude.{◌≡◌, Some, IfOk, slice_get};
 ghost use Rattle.lb_run_pins.specs.Lines.{kept_line};
 ghost use Rattle.lb_run_pins.specs.Returning.{AreReturned};
 
@@ -7,7 +7,7 @@ use crate::moments::now_on;
 use crate::{Kept, PinsPlace};
 use lb_config::BackendConfig;
 use lb_desk_ports::{Port, Refused};
-use lb_run_floor::{Desks, Floor, Host, Seating, seat_at};
+use lb_run_floor::{Desks, Floor, Host, Seating, backend_at, seat_at};
 use lb_types::Moment;
 use pin_file::{BackendPins, PinFile};
 use pin_file_return::{Returned, greatest_age, return_pins, returned};
@@ -72,8 +72,8 @@ fn return_each<R: Host, D: Seating<R>, G: Drop>(
     floor: &Floor<'_, D, G>,
     back: &Return<'_>,
 ) -> Result<(), Refused> {
-    for (place, backend) in floor.config.backends().iter().enumerate() {
-        let line = return_at(rt, floor, back, place, backend)?;
+    for place in 0..floor.config.backends().len() {
+        let line = return_at(rt, floor, back, place)?;
         floor.reports.say(rt, &line);
     }
     Ok(())
@@ -85,12 +85,29 @@ fn return_at<R: Host, D: Seating<R>, G: Drop>(
     floor: &Floor<'_, D, G>,
     back: &Return<'_>,
     place: usize,
-    backend: &BackendConfig,
 ) -> Result<Vec<u8>, Refused> {
+    let Some(backend) = backend_at(floor, place) else {
+        return Err(Refused::Memory);
+    };
     let mut seat = seat_at(rt, floor, place)?;
-    let done = return_to(rt, back, backend, &mut seat);
+    let done = return_seated(rt, floor, back, place, backend, &mut seat);
     floor.desks.leave(rt, seat);
     done
+}
+
+/// Sets the pins of this backend, whose desk the seat is at.
+fn return_seated<R: Host, D: Seating<R>, G: Drop>(
+    rt: &R,
+    floor: &Floor<'_, D, G>,
+    back: &Return<'_>,
+    place: usize,
+    backend: &BackendConfig,
+    seat: &mut D::Seat,
+) -> Result<Vec<u8>, Refused>
+    requires backend { slice_get floor.now.config.now.backends place ≡ Some backend.now }
+    requires seat { D.desk_of seat.old ≡ place }
+{
+    return_to(rt, back, backend, seat)
 }
 
 /// Sets the pins of this backend through a port, and makes the line that says so. It is empty where there is no table and nothing to say.

@@ -1,5 +1,7 @@
 //! What each thread does, from its first seat to its last. A thread that can't begin ends the balancer.
-ghost use Rattle.std.specs.Prelude.{◌≡◌, Some, length, slice_get};
+ghost use Rattle.std.specs.Prelude.{◌≡◌, List, Some, length, slice_get};
+ghost use Rattle.http_relay_serve.specs.Serves.{port_seen};
+ghost use Rattle.http_relay_work.specs.Services.{Service, ServesInTurn};
 ghost use Rattle.lb_desk_planner.specs.Told.{PlansAsTold, ledger};
 ghost use Rattle.lb_run_floor.specs.Seating.{StandInOrder};
 
@@ -118,6 +120,8 @@ fn serve_seated<R: Host, D: Seating<R>, G: SharedGate<R>>(
 ) -> Vec<D::Seat>
     requires count { length seats.items ≡ length floor.now.config.now.backends }
     requires order { StandInOrder D.desk_of seats.items }
+    ensures served { (services : List Service) × ServesInTurn (port_seen D.Seat.Port.entries D.Seat.Port.refusals) D.Seat.Port.server_of
+        floor.now.config.now seats.items result.items services }
 {
     let relay = Relay {
         config: floor.config,
@@ -202,8 +206,21 @@ pub(crate) fn plan<R: Host, D: Seating<R>, G: SharedGate<R>>(
         return;
     };
     let mut notices = notices;
-    plan_at(rt, floor, &mut seat, &mut notices);
+    plan_seated(rt, floor, place, &mut seat, &mut notices);
     floor.desks.leave(rt, seat);
+}
+
+/// Moves pins at this seat, which is at the desk of the backend at this place.
+fn plan_seated<R: Host, D: Seating<R>, G: SharedGate<R>>(
+    rt: &R,
+    floor: &Floor<'_, D, G>,
+    place: usize,
+    seat: &mut D::Seat,
+    notices: &mut Notices,
+)
+    requires seat { D.desk_of seat.old ≡ place }
+{
+    plan_at(rt, floor, seat, notices);
 }
 
 /// Moves pins at this mover, in as many tries at most as the configuration says.

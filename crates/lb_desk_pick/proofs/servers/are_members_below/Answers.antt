@@ -1,26 +1,31 @@
-use Rattle.std.proofs.Common.{◌≡◌, ℕ, ◌<◌, ⊎_elim, refl, sym, ap, ◌∙◌, arith}
-use Rattle.std.proofs.lemmas.Bool.{false≢true}
-use Rattle.lb_types.specs.Servers.{has, members}
-use Rattle.lb_desk_pick.proofs.Members.{all_below, member_passes, same_or_below}
+use Rattle.std.proofs.Common.{◌≡◌, length, min, sym, ap, ◌∙◌, arith}
+use Rattle.std.proofs.lemmas.Bool.{eq-eqb, eqb-true}
+use Rattle.lb_types.specs.Servers.{has, members, members_below}
+use Rattle.lb_desk_pick.proofs.Members.{all_counted, counted_all, counted_in, counted_out, none_counted}
 use Rattle.lb_desk_pick.proofs.servers.are_members_below.Goals as goal
+use Rattle.lb_desk_pick.proofs.servers.are_members_below.Goals.{then-has, else-has}
 
--- a server of the set that isn't one of the first
-pub returns-then-has : goal.returns-then-has
-unfolding members
-returns-then-has c = (
-  λ yes. absurd (false≢true yes),
-  λ all.
-      let here = ap (has c.args.set) (sym c.new.ensures) ∙ (sym c.has.ensures ∙ c.if-has.true) in
-      let below : c.loop-i.i < c.args.count = member_passes (λ (server : ℕ). server < c.args.count) 128 c.loop-i.i c.args.set all (omega (arith, c.loop-i-test.true)) here in
-      absurd (omega (arith, below, c.loop-i.auto.i)),
-)
+pub loop-i-init : goal.loop-i-init
+loop-i-init c = (none_counted c.args.set, omega arith)
+
+pub overflow_add-below : goal.overflow_add-below
+overflow_add-below c = search (arith, c.loop-i.invariant.1, c.loop-i-test.true, c.min-i-end.ensures)
 
 pub loop-i-preserved : goal.loop-i-preserved
-loop-i-preserved c = λ server from below. ⊎_elim
-    (λ same. ap (has c.args.set) (same ∙ sym c.new.ensures) ∙ (sym c.has.ensures ∙ c.if-has.false))
-    (λ before. c.loop-i.invariant server from before)
-    (same_or_below server c.loop-i.i below)
+loop-i-preserved c = elim c.if-has.branch [
+  | then-has w ↦
+      let there = ap (has c.args.set) (sym c.new.ensures) ∙ (sym c.has.ensures ∙ w.if-has.true) in
+      (omega (arith, w.below-is, c.loop-i.invariant.0, counted_in c.loop-i.i c.args.set there), omega (arith, w.below-is, c.loop-i.invariant.1))
+  | else-has w ↦
+      let none = ap (has c.args.set) (sym c.new.ensures) ∙ (sym c.has.ensures ∙ w.if-has.false) in
+      (omega (arith, w.below-is, c.loop-i.invariant.0, counted_out c.loop-i.i c.args.set none), omega (arith, w.below-is, c.loop-i.invariant.1))
+]
 
 pub returns : goal.returns
 unfolding members
-returns c = (λ yes. all_below 128 c.args.count c.args.set (λ server from below. c.loop-i.invariant server from (omega (arith, below, c.loop-i-test.false))), λ all. refl)
+returns c =
+    let end : c.loop-i.i ≡ min c.args.count 128 = omega (arith, c.loop-i-test.false, c.min-i-end.ensures, c.loop-i.auto.i-end) in
+    let seen = c.loop-i.invariant.0 ∙ ap (λ n. length (members_below n c.args.set)) end in (
+      λ yes. all_counted c.args.count c.args.set (sym seen ∙ (eqb-true c.loop-i.below c.len.result yes ∙ c.len.ensures)),
+      λ all. eq-eqb c.loop-i.below c.len.result (seen ∙ (counted_all c.args.count c.args.set all ∙ sym c.len.ensures)),
+    )

@@ -3,8 +3,8 @@ use Rattle.std.proofs.lemmas.Bool.Decides.{nat_tests}
 use Rattle.std.proofs.lemmas.Option.{slice_get_read}
 use Rattle.lb_run.proofs.seating.RunDesks.take_seat.Goals as goal
 
-pub returns : goal.returns
-returns g c =
+pub returns-clause-desk : goal.returns-clause-desk
+returns-clause-desk g c =
     let desks = c.args.self.now.desks.now in
     let test : nat_lt c.args.number (length desks) ≡ true = sym c.in-Some.ensures.lookup.0 in
     let within : c.args.number < length desks = grind (arith, nat_tests) in
