@@ -88,15 +88,15 @@ fn who_says_nothing_fails_at_the_limit_and_delays_nobody(rt: HostRuntime) -> Res
     let line = RequestLine::new(rt.alloc(), b"GET", b"/h", Version::Http11)?;
     let asks = CheckRule::http(rt.alloc(), &line, Ipv4Addr::LOCALHOST, port)?;
     let connects = CheckRule::connect();
-    let dark = Some(target(&asks, port, 300));
-    let targets = [dark, dark, dark, Some(target(&connects, well, 300))];
+    let dark = Some(target(&asks, port, 2000));
+    let targets = [dark, dark, dark, Some(target(&connects, well, 2000))];
     let mut probes = SocketProbes::new(&rt, rt.alloc(), &targets)?;
     let begun = Instant::now(&rt)?;
     begin_all(&mut probes, 4);
     let first = next_of(&mut probes);
     let soon = begun.elapsed(&rt)?;
     assert!(rt;
-        first == Some((3, true)) && soon < Duration::from_millis(250),
+        first == Some((3, true)) && soon < Duration::from_millis(1500),
         "{first:?}, {soon:?}"
     );
     for _ in 0..3 {
@@ -104,10 +104,12 @@ fn who_says_nothing_fails_at_the_limit_and_delays_nobody(rt: HostRuntime) -> Res
         assert!(rt; next.map(|next| next.1) == Some(false), "{next:?}");
     }
     let taken = begun.elapsed(&rt)?;
-    let (least, most) = (Duration::from_millis(300), Duration::from_millis(2000));
+    let (least, most) = (Duration::from_millis(2000), Duration::from_millis(6000));
     assert!(rt; least <= taken && taken < most, "{taken:?}");
     Ok(())
 }
+
+const REQUEST: &[u8; 19] = b"GET /h HTTP/1.0\r\n\r\n";
 
 // A server that answers the request in pieces is well; the request comes whole.
 #[test]
@@ -122,15 +124,16 @@ fn an_answer_in_pieces_is_judged(rt: HostRuntime) -> Result<(), Fail> {
         let Ok((mut stream, _)) = listener.accept() else {
             return false;
         };
-        let mut room = [0; 64];
-        let count = stream.read(&mut room).unwrap_or(0);
+        // The request's line and its fields are written one after the other.
+        let mut asked = [0; 19];
+        let is_whole = stream.read_exact(&mut asked).is_ok();
         for piece in [b"HTTP/1.0 ".as_slice(), b"204 No", b" Content\r\n\r\n"] {
             std::thread::sleep(&rt, Duration::from_millis(20));
             if stream.write(piece).is_err() {
                 return false;
             }
         }
-        count == b"GET /h HTTP/1.0\r\n\r\n".len()
+        is_whole && asked == *REQUEST
     };
     let (served, answer) = join(&rt, serves, || {
         begin_all(&mut probes, 1);

@@ -16,7 +16,7 @@ use std::{io, thread};
 const REQUEST: &[u8] = b"GET / HTTP/1.1\r\nHost: a\r\n\r\n";
 
 // The limit of a client that is silent.
-const LIMIT_MILLIS: u32 = 300;
+const LIMIT_MILLIS: u32 = 1000;
 
 const SHORT: StreamLimits = StreamLimits {
     read: Some(LIMIT_MILLIS),
@@ -85,8 +85,8 @@ fn a_slow_head_hinders_no_other(rt: HostRuntime) -> Result<(), Fail> {
     Ok(())
 }
 
-// The client that sends a byte within its limit goes after the one that is silent, and both within some 50 ms of their limits.
-// Milliseconds until each went, and whether they were reported as timed out with what they had sent.
+// The client that sends a byte within its limit goes after the one that is silent. Milliseconds until each went, and whether they were
+// reported as timed out with what they had sent.
 fn are_dismissed<R: Wait + Clock + Net<Stream = TcpStream>>(
     rt: &R,
     address: SocketAddr,
@@ -96,7 +96,7 @@ fn are_dismissed<R: Wait + Clock + Net<Stream = TcpStream>>(
     let mut lively = TcpStream::connect(rt, address)?;
     lively.write_all(b"G")?;
     let silent = TcpStream::connect(rt, address)?;
-    thread::sleep(rt, Duration::from_millis(200));
+    thread::sleep(rt, Duration::from_millis(500));
     lively.write_all(b"E")?;
     let first = is_next(rt, from, b"", Some(WireFault::Timeout));
     let first_millis = begun.elapsed(rt)?.as_millis();
@@ -126,7 +126,7 @@ fn a_silent_client_is_dismissed(rt: HostRuntime) -> Result<(), Fail> {
     gathered?;
     let (first, second, are_told) = times?;
     assert!(rt;
-        are_told && first >= 299 && first < 900 && second >= 499 && second < 1100,
+        are_told && first >= 999 && first < 2000 && second >= 1499 && second < 3000,
         "{first}, {second}"
     );
     Ok(())
@@ -139,7 +139,7 @@ fn oldest_goes<R: Wait + Clock + Net<Stream = TcpStream>>(
     from: &WaitingLine<TcpStream>,
     stop: &AtomicBool,
 ) -> io::Result<bool> {
-    let pause = Duration::from_millis(50);
+    let pause = Duration::from_millis(150);
     let mut first = TcpStream::connect(rt, address)?;
     first.write_all(b"1")?;
     thread::sleep(rt, pause);
@@ -261,7 +261,7 @@ fn a_stop_lets_newcomers_go(rt: HostRuntime) -> Result<(), Fail> {
     Ok(())
 }
 
-// What a client gets that sends a byte each 100 ms and whose limit is 300 ms: milliseconds from the stop until it was reported as timed
+// What a client gets that sends a byte each 100 ms and whose limit is 1 s: milliseconds from the stop until it was reported as timed
 // out, if it was.
 fn drips_until_dismissed<R: Wait + Clock + Net<Stream = TcpStream>>(
     rt: &R,
@@ -273,7 +273,7 @@ fn drips_until_dismissed<R: Wait + Clock + Net<Stream = TcpStream>>(
     client.set_nodelay(true)?;
     client.write_all(b"GET /")?;
     let mut begun = Instant::now(rt)?;
-    for count in 0..30 {
+    for count in 0..60 {
         if count == 5 {
             begun = Instant::now(rt)?;
             stop.store(true, Ordering::SeqCst);
@@ -303,6 +303,6 @@ fn a_stop_waits_for_no_client_that_drips(rt: HostRuntime) -> Result<(), Fail> {
     );
     gathered?;
     let passed = passed?.unwrap_or(0);
-    assert!(rt; passed >= 299 && passed < 1000, "{passed}");
+    assert!(rt; passed >= 999 && passed < 4000, "{passed}");
     Ok(())
 }
