@@ -13,7 +13,7 @@ const LINE_MILLIS: u32 = 5000;
 /// How many milliseconds an operator may take for its whole answer, from the first write on.
 const ANSWER_MILLIS: u32 = 60_000;
 
-/// How many milliseconds it may still take once nobody else is answered.
+/// How many milliseconds it may still take once `is_over` is set.
 const REST_MILLIS: u32 = 5000;
 
 /// How many milliseconds one write waits at most: the default of HAProxy's `stats timeout`.

@@ -10,6 +10,8 @@ mod guests;
 #[cfg(test)]
 mod heads;
 #[cfg(test)]
+mod limits;
+#[cfg(test)]
 mod operators;
 #[cfg(test)]
 mod scripted;

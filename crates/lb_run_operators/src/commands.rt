@@ -4,7 +4,7 @@ ghost use Rattle.lb_run_floor.specs.Seating.{StandInOrder};
 use crate::bells::{Bells, copies_of};
 use command_socket_listen::{CommandListener, LineStream};
 use command_socket_serve::{Console, Next, named_backend, serve_connection};
-use crossbeam_channel::Sender;
+use crossbeam_channel::{Sender, bounded};
 use http_relay_socket::end_gently;
 use lb_answers::NamedBackend;
 use lb_config::BackendConfig;
@@ -15,6 +15,7 @@ use lb_desk_ports::Refused;
 use lb_run_floor::{Desks, Floor, Host, Seating, SharedGate, leave_all, seats};
 use lb_types::Moment;
 use std::alloc::{AllocError, Global};
+use std::fs::Files;
 use std::sync::atomic::{AtomicBool, Ordering};
 use std::thread;
 use std::thread::Scope;
@@ -29,19 +30,21 @@ const ROOM: usize = 4096;
 /// How many milliseconds pass between two looks at whether the workers have ended.
 const LOOK_MILLIS: u64 = 20;
 
-/// Answers operators, some at a time, until the balancer is to end and no worker is left: so they are answered also after `stop`, while
-/// requests are finished. `checks_end` is let go once the balancer is to end, and the checks end by that.
-pub fn answer_operators<R: Host, D: Seating<R> + Send + Sync, G: SharedGate<R>>(
+/// Answers operators, some at a time, until the balancer is to end, no worker is left, and what operators asked for by then is done: so
+/// they are answered also after `stop`, while requests are finished and a plan is made. Then the listener's path is free.
+/// `checks_end` is let go once the balancer is to end, and the checks end by that.
+pub fn answer_operators<R: Host + Files, D: Seating<R> + Send + Sync, G: SharedGate<R>>(
     rt: &R,
     floor: &Floor<'_, D, G>,
     listener: &CommandListener,
     bells: Vec<Option<Bell>>,
     checks_end: Sender<()>,
 ) -> Result<(), AllocError> {
-    let is_over = AtomicBool::new(false);
-    let is_over = &is_over;
+    let end = End::new();
+    let end = &end;
+    let (busy, none_busy) = bounded(floor.alloc, 1)?;
     thread::scope(thread::scope_env(), rt, move |scope| {
-        let started = start_operators(rt, scope, floor, listener, &bells, is_over);
+        let started = start_operators(rt, scope, floor, listener, &bells, end, busy);
         if started.is_err() {
             floor.stop();
         }
@@ -49,26 +52,51 @@ pub fn answer_operators<R: Host, D: Seating<R> + Send + Sync, G: SharedGate<R>>(
         floor.wait_for_end(rt);
         drop(checks_end);
         wait_for_workers(rt, floor);
-        is_over.store(true, Ordering::SeqCst);
+        end.is_near.store(true, Ordering::SeqCst);
+        // Nobody sends: it waits until each thread has let go of its sender.
+        let _ = none_busy.recv(rt);
+        end.is_here.store(true, Ordering::SeqCst);
+        // A file that stays is replaced at the next start.
+        let _ = listener.free_path(rt);
         started
     })
 }
 
-/// Starts the threads that answer operators.
+/// How far the end is. Both flags are set once, in their order.
+#[derive(Drop)]
+struct End {
+    /// No worker is left. From here on an operator has less time.
+    is_near: AtomicBool,
+    /// All that operators had asked for by then is done. Nobody else is answered.
+    is_here: AtomicBool,
+}
+
+impl End {
+    fn new() -> Self {
+        End {
+            is_near: AtomicBool::new(false),
+            is_here: AtomicBool::new(false),
+        }
+    }
+}
+
+/// Starts the threads that answer operators. Each lets go of its copy of `busy` once it has answered who came before the end was near.
 fn start_operators<'s, E, R: Host, D: Seating<R> + Send + Sync, G: SharedGate<R>>(
     rt: &'s R,
     scope: &'s Scope<'s, E>,
     floor: &'s Floor<'s, D, G>,
     listener: &'s CommandListener,
     bells: &[Option<Bell>],
-    is_over: &'s AtomicBool,
+    end: &'s End,
+    busy: Sender<()>,
 ) -> Result<(), AllocError> {
     for _ in 0..OPERATORS {
         let bells = Bells {
             rt,
             bells: copies_of(floor.alloc, bells)?,
         };
-        scope.spawn(move || answer_some(rt, floor, listener, bells, is_over))?;
+        let busy = busy.clone()?;
+        scope.spawn(move || answer_some(rt, floor, listener, bells, end, busy))?;
     }
     Ok(())
 }
@@ -98,9 +126,10 @@ fn answer_some<R: Host, D: Seating<R>, G: SharedGate<R>>(
     floor: &Floor<'_, D, G>,
     listener: &CommandListener,
     bells: Bells<'_, R>,
-    is_over: &AtomicBool,
+    end: &End,
+    busy: Sender<()>,
 ) {
-    if answer_at_seats(rt, floor, listener, bells, is_over).is_err() {
+    if answer_at_seats(rt, floor, listener, bells, end, busy).is_err() {
         floor.starve();
     }
 }
@@ -111,7 +140,8 @@ fn answer_at_seats<R: Host, D: Seating<R>, G: SharedGate<R>>(
     floor: &Floor<'_, D, G>,
     listener: &CommandListener,
     bells: Bells<'_, R>,
-    is_over: &AtomicBool,
+    end: &End,
+    busy: Sender<()>,
 ) -> Result<(), Refused> {
     let configs = floor.config.backends();
     let backends = backends_of(floor.alloc, configs)?;
@@ -119,14 +149,51 @@ fn answer_at_seats<R: Host, D: Seating<R>, G: SharedGate<R>>(
     let console = Console::new(floor.config, &names, &floor.gate);
     let mut bells = bells;
     let mut seats = seats(rt, floor)?;
-    answer_each(
-        rt, floor, listener, &console, &mut seats, &mut bells, is_over,
+    answer_to_the_end(
+        rt, floor, listener, &console, &mut seats, &mut bells, end, busy,
     );
     leave_all(rt, floor, seats);
     Ok(())
 }
 
-/// Answers one operator after another until it is over. The command `stop` asks all threads to end, and a second one cuts off open
+/// Answers one operator after another until the end is near, lets go of `busy`, and goes on until the end is here.
+fn answer_to_the_end<R: Host, D: Seating<R>, G: SharedGate<R>>(
+    rt: &R,
+    floor: &Floor<'_, D, G>,
+    listener: &CommandListener,
+    console: &Console<'_, G>,
+    seats: &mut [D::Seat],
+    bells: &mut Bells<'_, R>,
+    end: &End,
+    busy: Sender<()>,
+)
+    requires count { length seats.old ≡ length console.now.config.backends }
+    requires order { StandInOrder D.desk_of seats.old }
+{
+    answer_each(
+        rt,
+        floor,
+        listener,
+        console,
+        seats,
+        bells,
+        end,
+        &end.is_near,
+    );
+    drop(busy);
+    answer_each(
+        rt,
+        floor,
+        listener,
+        console,
+        seats,
+        bells,
+        end,
+        &end.is_here,
+    );
+}
+
+/// Answers one operator after another until `until` is set. The command `stop` asks all threads to end, and a second one cuts off open
 /// requests.
 fn answer_each<R: Host, D: Seating<R>, G: SharedGate<R>>(
     rt: &R,
@@ -135,18 +202,19 @@ fn answer_each<R: Host, D: Seating<R>, G: SharedGate<R>>(
     console: &Console<'_, G>,
     seats: &mut [D::Seat],
     bells: &mut Bells<'_, R>,
-    is_over: &AtomicBool,
+    end: &End,
+    until: &AtomicBool,
 )
     requires count { length seats.old ≡ length console.now.config.backends }
-    requires order { StandInOrder D.desk_of seats.old }
+    ensures count { length seats.new ≡ length seats.old }
 {
     let mut room = [0; ROOM];
     for _ in rt.forever() {
-        let Some(stream) = listener.next_connection(rt, is_over) else {
+        let Some(stream) = listener.next_connection(rt, until) else {
             break;
         };
         let console = console.at(Moment::from_millis(millis_of(rt, floor)));
-        let mut line = LineStream::new(rt, is_over, stream);
+        let mut line = LineStream::new(rt, &end.is_near, stream);
         let next = serve_connection(rt, floor.alloc, &console, seats, bells, &mut line);
         if next == Next::Stop {
             floor.stop_or_cut(rt);

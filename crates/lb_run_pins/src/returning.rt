@@ -106,6 +106,8 @@ fn return_seated<R: Host, D: Seating<R>, G: Drop>(
 ) -> Result<Vec<u8>, Refused>
     requires backend { slice_get floor.now.config.now.backends place ≡ Some backend.now }
     requires seat { D.desk_of seat.old ≡ place }
+    ensures { IfOk result (λ line. AreReturned backend.now back.now.file.now back.now.moment
+        (D.Seat.Port.entries seat.old) (D.Seat.Port.entries seat.new)) }
 {
     return_to(rt, back, backend, seat)
 }

@@ -1,0 +1,124 @@
+//! How long operators may take.
+
+use command_socket_listen::{CommandListener, CommandStream, LineStream};
+use lb_config_arguments::Endpoint;
+use lb_config_keywords::SocketAddress;
+use std::cell::Cell;
+use std::io;
+use std::io::{ErrorKind, Read, Write};
+use std::net::{Ipv4Addr, TcpListener, TcpStream};
+use std::sync::atomic::{AtomicBool, Ordering};
+use std::test::Fail;
+use std::time::{Clock, Duration};
+
+/// Time that passes where a test says so.
+#[derive(Drop)]
+struct Time {
+    millis: Cell<u64>,
+}
+
+impl Clock for Time {
+    fn monotonic(&self) -> io::Result<Duration> {
+        Ok(Duration::from_millis(self.millis.get()))
+    }
+
+    fn since_1970(&self) -> io::Result<Duration> {
+        self.monotonic()
+    }
+}
+
+// Both ends of an operator's connection.
+fn ends(rt: &HostRuntime) -> Result<(CommandStream, TcpStream), Fail> {
+    let address = TcpListener::bind(rt, "127.0.0.1:0")?.local_addr()?;
+    let endpoint = Endpoint {
+        address: Ipv4Addr::LOCALHOST,
+        port: address.port(),
+    };
+    let listener = CommandListener::open(rt, rt.alloc(), &SocketAddress::Tcp(endpoint))?;
+    let far = TcpStream::connect(rt, address)?;
+    let near = listener.next_connection(rt, &AtomicBool::new(false));
+    listener.close(rt)?;
+    Ok((near.ok_or("a connection")?, far))
+}
+
+/// A call of one byte.
+#[derive(Clone, Copy, Debug)]
+enum Call {
+    Read,
+    Write,
+}
+
+/// When it is over, if that comes; and calls, each with its moment in milliseconds, and whether it fails as timed out.
+const LIMITS: &[(Option<u64>, &[(Call, u64, bool)])] = &[
+    // A line has 5 s from the beginning on, however many reads that takes.
+    (
+        None,
+        &[
+            (Call::Read, 0, false),
+            (Call::Read, 4999, false),
+            (Call::Read, 5000, true),
+        ],
+    ),
+    // An answer has 60 s from its first write on, whenever that comes.
+    (
+        None,
+        &[
+            (Call::Write, 4000, false),
+            (Call::Write, 63_999, false),
+            (Call::Write, 64_000, true),
+        ],
+    ),
+    // It has 5 s from the first write on that finds that it is over, and no more than its 60 s.
+    (
+        Some(10_000),
+        &[
+            (Call::Write, 0, false),
+            (Call::Write, 20_000, false),
+            (Call::Write, 24_999, false),
+            (Call::Write, 25_000, true),
+        ],
+    ),
+    (
+        Some(10_000),
+        &[
+            (Call::Write, 0, false),
+            (Call::Write, 59_999, false),
+            (Call::Write, 60_000, true),
+        ],
+    ),
+];
+
+// Whether the call did what is expected: it moves one byte, or fails as timed out.
+fn is_as_expected(moved: io::Result<usize>, times_out: bool) -> bool {
+    match moved {
+        Ok(count) => !times_out && count == 1,
+        Err(error) => times_out && error.kind() == ErrorKind::TimedOut,
+    }
+}
+
+// Each limit ends the call that comes after it, and none before.
+#[test]
+fn operators_have_their_limits(rt: HostRuntime) -> Result<(), Fail> {
+    for (over_at, calls) in LIMITS {
+        let time = Time {
+            millis: Cell::new(0),
+        };
+        let is_over = AtomicBool::new(false);
+        let (near, mut far) = ends(&rt)?;
+        far.write_all(b"show")?;
+        let mut line = LineStream::new(&time, &is_over, near);
+        for (call, moment, times_out) in *calls {
+            time.millis.set(*moment);
+            if over_at.is_some_and(|over| over <= *moment) {
+                is_over.store(true, Ordering::SeqCst);
+            }
+            let moved = match call {
+                Call::Read => line.read(&mut [0; 1]),
+                Call::Write => line.write(b"x"),
+            };
+            let is_so = is_as_expected(moved, *times_out);
+            assert!(rt; is_so, "{over_at:?}, {call:?}, {moment}");
+        }
+    }
+    Ok(())
+}
