@@ -4,6 +4,7 @@ from __future__ import annotations
 
 import contextlib
 import os
+import random
 import re
 import socket
 import stat
@@ -13,7 +14,7 @@ from pathlib import Path
 
 from .cases import case, expect, expect_between, expect_equal, wait_until
 from .clients import Client, ask_operator, at_once, get, is_refused, operator_stream, read_to_end
-from .farms import TABLE, Balancer, Ending, Farm, ends_well, listen, section, server
+from .farms import LIMITS, TABLE, Balancer, Ending, Farm, ends_well, listen, section, server
 from .origins import HOST, Gate, answers
 
 UNKNOWN = "100 UnknownCommand\n\n"
@@ -244,6 +245,9 @@ def an_operator_that_reads_slowly_holds_up_no_other_one_and_no_stop(farm: Farm) 
         try:
             asked_within(balancer, 0, 2)
             expect_equal("the answer to `stop`", balancer.tell("stop"), "\n")
+            wait_until("nobody else is accepted", lambda: is_refused(port))
+            time.sleep(0.5)
+            asked_within(balancer, 0, 2)
             due = Ending(0, "closed web events 800 rising yes\n", balancer.errors())
             expect_equal("the end", balancer.wait(), due)
             # By its rule 15 s at most; without a limit the reader would take 200.
@@ -316,9 +320,56 @@ def at_a_stop_the_command_socket_is_free_before_a_check_that_waits_has_ended(far
         balancer = farm.start(listen(farm.port(), *lines))
         at = balancer.operators
         assert isinstance(at, Path)
+        begun = time.monotonic()
         expect_equal("the answer to `stop`", balancer.tell("stop"), "\n")
         wait_until("the socket's file is gone", lambda: not at.exists(), 2)
         expect_equal("the status", balancer.wait().status, 0)
+        expect_between("the check isn't waited for", 0, time.monotonic() - begun, 3)
+
+
+def pins_in_groups(names: list[str], pins: int) -> str:
+    """A file of pins, each with a cost and eight servers at which it may be, which are drawn for it."""
+    draw = random.Random(7)
+    sets = [sorted(draw.sample(range(len(names)), 8)) for _ in range(20_000)]
+    lines = []
+    for number in range(pins):
+        wanted = draw.choice(sets)
+        at = names[draw.choice(wanted)]
+        lines.append(f"pin k{number} {','.join(names[it] for it in wanted)} {at} {draw.randint(1, 9)} {pins - number}\n")
+    return "".join(["stickypins 1\nbackend web\n", *lines, "end\n"])
+
+
+@case
+def operators_are_answered_at_a_stop_while_another_one_waits_for_a_plan(farm: Farm) -> None:
+    names, pins = [f"s{number}" for number in range(128)], 100_000
+    path, port, origin = farm.folder / "pins", farm.port(), farm.origin()
+    path.write_text(pins_in_groups(names, pins))
+    farm.words = ("--pins", str(path), "--pins-every", "0")
+    # Without room for 30 % of the pins, so that the plan takes a second or two.
+    room = pins * 70 // 100 // 127
+    table = ("stick-table type string size 1m", "stick on hdr(x-id)")
+    balancer = farm.start(listen(port, *table, *LIMITS, *(server(name, origin, f"maxpins {room}") for name in names)))
+    expect_equal("a server drains", balancer.tell("set server web/s0 state drain"), "\n")
+    planned: list[str] = []
+    planning = threading.Thread(target=lambda: planned.append(balancer.tell("plan backend web")))
+    planning.start()
+    time.sleep(0.05)
+    expect_equal("the answer to `stop`", balancer.tell("stop"), "\n")
+    while not planned:
+        begun = time.monotonic()
+        try:
+            answer = balancer.tell("show plan web")
+        except OSError:
+            answer = ""
+        expect_between("the answer, or the end, came in time", 0, time.monotonic() - begun, 1)
+        if answer != "no plan\n\n":
+            # The end came between.
+            planning.join(2)
+        expect("another operator is answered until the plan is there", answer == "no plan\n\n" or len(planned) == 1)
+    planning.join()
+    plan = rf"pins {pins} unplaced {pins - 127 * room} moved \d+ cost \d+\n\n"
+    expect(f"the plan {planned}", re.fullmatch(plan, planned[0]) is not None)
+    expect_equal("the status", balancer.wait().status, 0)
 
 
 # What a program sends to an address that it takes for a web server's, with commands in it.

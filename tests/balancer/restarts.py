@@ -10,6 +10,7 @@ import signal
 import subprocess
 import threading
 import time
+from collections import Counter
 from collections.abc import Iterable
 from pathlib import Path
 
@@ -134,6 +135,26 @@ def what_does_not_come_back_is_counted(farm: Farm) -> None:
     expect_equal("the costs", [it[4] for it in lines], ["7", "1", "1"])
     ages = [int(it[5]) for it in lines]
     expect("the ages go on", [ages[0] - ages[1], ages[1] - ages[2]] == [10, 10] and 30 <= ages[2] < 30_000)
+
+
+@case
+def a_server_that_was_added_gets_its_share_by_the_fewest_moves(farm: Farm) -> None:
+    port, a = farm.port(), farm.origin()
+    path = kept(farm, *NEVER)
+    lines = [f"pin k{number} - web{number % 4 + 1} 1 {2000 - number}\n" for number in range(2000)]
+    path.write_text("".join(["stickypins 1\nbackend web\n", *lines, "end\n"]))
+    names = [f"web{number}" for number in range(1, 6)]
+    table = ("stick-table type string size 10k", "stick on hdr(x-id)")
+    balancer = farm.start(listen(port, *table, *LIMITS, *(server(name, a, "maxpins 1000") for name in names)))
+    expect_equal("the report", reports_of(balancer), ["pins web kept 2000 left out 0"])
+    # As docs/RESTARTS.md has it.
+    limits = "".join(f"set maxpins server web/{name} 420; " for name in names)
+    answer = balancer.tell(f"{limits}plan backend web").split("\n")
+    expect_equal("the plan", [it for it in answer if it], ["pins 2000 unplaced 0 moved 320"])
+    counts = Counter(place for _, place in places(balancer.tell("show table web")))
+    expect_equal("the new one's pins", counts["web5"], 320)
+    expect("the others keep 420 each", all(counts[name] == 420 for name in names[:4]))
+    ends_well(balancer)
 
 
 @case
