@@ -13,7 +13,7 @@ from dataclasses import dataclass
 from pathlib import Path
 
 from . import (
-    checks, commands, crowds, faults, floods, forwarding, handed_over, keys, limits, machines, manual, operators, pins, queues, restarts, rules,
+    checks, commands, crowds, faults, floods, forwarding, handed_over, haproxy, keys, limits, machines, manual, operators, pins, queues, restarts, rules,
     sessions, slow, slowness, smuggling, soak, starts, supervised, waits, web_farm, wholes,
 )  # fmt: skip
 from .cases import CASES, Case, Failure, Mistimed
@@ -22,7 +22,7 @@ from .farms import Farm, end_all
 ROOT = Path(__file__).resolve().parent.parent.parent
 PROGRAM = ROOT / "crates" / "stickylb" / "out" / "stickylb"
 GROUPS = (
-    checks, commands, crowds, faults, floods, forwarding, handed_over, keys, limits, machines, manual, operators, pins, queues, restarts, rules,
+    checks, commands, crowds, faults, floods, forwarding, handed_over, haproxy, keys, limits, machines, manual, operators, pins, queues, restarts, rules,
     sessions, slowness, smuggling, starts, supervised, waits, web_farm, wholes,
 )  # fmt: skip
 
