@@ -3,14 +3,14 @@
 use crate::farm::{A, B, C, FIRST, Hasher, TWO_MOVED, farm, request, server};
 use crate::marks::{begin, end, tell};
 use dual_cert::{read_plan, read_sheet};
-use lb_desk_model::{Backend, Entry, Event, Refusal, Reply, ServedAs, Shared};
+use lb_desk_model::{Backend, Entry, Event, PinnedAs, Refusal, Reply, ServedAs, SetPin, Shared};
 use lb_desk_ports::Refused;
 use lb_desk_step::Desk;
-use lb_types::Moment;
-use pin_set::{Score, TablePin};
+use lb_types::{Moment, ServerSet};
+use pin_set::{KeyText, PinId, PinKey, Score, TablePin};
 use rise_fall::Flip;
 use server_state::{AdminState, Change, Checked, Setting};
-use std::alloc::Global;
+use std::alloc::{AllocError, Global};
 use std::hash::{BuildHasherDefault, FoldHasher};
 use std::process::Abort;
 use std::test::Fail;
@@ -191,6 +191,38 @@ fn a_request_that_moves_its_pin(rt: HostRuntime) -> Result<(), Fail> {
     let event = Event::Serve(request(alloc, 5, "k1")?);
     let owed = Reply::Served(server(B), ServedAs::Moved);
     takes_behind(&rt, alloc, set_a(AdminState::Maint), event, &owed)
+}
+
+fn named(alloc: Global, key: &str) -> Result<PinId, AllocError> {
+    Ok(PinId {
+        key: PinKey::Text(KeyText::copied_from(alloc, key.as_bytes())?),
+        want: ServerSet::empty(),
+    })
+}
+
+fn set(alloc: Global, key: &str, at: u8) -> Result<Event, AllocError> {
+    Ok(Event::Set(SetPin {
+        name: named(alloc, key)?,
+        server: server(at),
+        cost: 1,
+        moment: Moment::from_millis(5),
+    }))
+}
+
+// k1 is at a, and k5 isn't there.
+#[test]
+fn a_pin_that_is_set_or_cleared(rt: HostRuntime) -> Result<(), Fail> {
+    let alloc = rt.alloc();
+    let made = Reply::Pinned(PinnedAs::Made);
+    takes_anew(&rt, alloc, set(alloc, "k5", B)?, &made)?;
+    let moved = Reply::Pinned(PinnedAs::Moved);
+    takes_anew(&rt, alloc, set(alloc, "k1", B)?, &moved)?;
+    let kept = Reply::Pinned(PinnedAs::Kept);
+    takes_anew(&rt, alloc, set(alloc, "k1", A)?, &kept)?;
+    let clear = Event::Clear(named(alloc, "k1")?);
+    takes_anew(&rt, alloc, clear, &Reply::Cleared)?;
+    let clear = Event::Clear(named(alloc, "k5")?);
+    takes_anew(&rt, alloc, clear, &Reply::NoPin)
 }
 
 // None of these needs memory. An Expire comes ten seconds after the last use of k2, k3 and k4, and a millisecond before those of k1
