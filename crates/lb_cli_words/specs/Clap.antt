@@ -26,7 +26,7 @@ abbrev pub plan_app : App
 plan_app = with_rule (with_rule (new_app (codes "plan")) (flag_rule (codes "table"))) file_rule
 
 abbrev pub check_app : App
-check_app = with_rule (new_app (codes "check")) file_option_rule
+check_app = with_rule (with_rule (new_app (codes "check")) file_option_rule) (flag_rule (codes "all"))
 
 abbrev pub run_app : App
 run_app = with_rule (with_rule (with_rule (new_app (codes "run")) file_option_rule) (named_rule (codes "pins"))) (named_rule (codes "pins-every"))

@@ -97,6 +97,15 @@ abbrev pub flagged : Text → Reader
 flagged name [] = None
 flagged name (word ∷ rest) = if bytes_eq word name then Some ([], rest) else None
 
+-- the values of two options, one behind the other
+abbrev pub in_turn : Reader → Reader → Reader
+in_turn first second words =
+    option_and_then (λ given. option_map (λ more. (given.0 ++ more.0, more.1)) (second given.1)) (first words)
+
+-- two options in either order
+abbrev pub both : Reader → Reader → Reader
+both one other words = option_or (in_turn one other words) (in_turn other one words)
+
 -- the option behind one operand, which stays among the words behind it
 abbrev pub behind_operand : Reader → Reader
 behind_operand option [] = None

@@ -107,7 +107,12 @@ fn check<'a>(alloc: Global) -> Result<Command<'a>, AllocError>
         "Prints what is ignored, as `line 3: log ignored`, and then `configuration is valid` with status 0; or the \
          first fault, as `line 2: 22 UnknownWord`, with status 1.",
     );
-    check.arg(config_option(alloc))
+    let all = flag(
+        alloc,
+        "all",
+        "Report all faults, at most 100, and then their number, as `2 faults`",
+    );
+    with_arguments(check, config_option(alloc), all)
 }
 
 fn replay<'a>(alloc: Global) -> Result<Command<'a>, AllocError>

@@ -18,8 +18,12 @@ pub enum Job<'a> {
     PlanTable {
         file: &'a str,
     },
-    /// `check -f <file>`: check the configuration in the file.
+    /// `check -f <file>`: check the configuration in the file, up to its first fault.
     Check {
+        file: &'a str,
+    },
+    /// `check --all -f <file>`: check the configuration in the file, and report further faults.
+    CheckAll {
         file: &'a str,
     },
     /// `replay <config> <script>`: replay the script at the backend of the configuration.

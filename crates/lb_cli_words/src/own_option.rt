@@ -1,10 +1,9 @@
 //! The options of the commands' own.
-ghost use Rattle.std.specs.Prelude.{◌≡◌, ◌≢◌, IfSome, IsSome, codes, option_map};
+ghost use Rattle.std.specs.Prelude.{◌≡◌, IfSome, IsSome, IsTrue, option_map};
 ghost use Rattle.lb_cli_words.specs.Words.{asks_help_with, behind_operand, files_with, taken_out, texts};
 ghost use Rattle.lb_cli_words.specs.Words.{flagged, lettered, named, value_apart, value_of};
-ghost use Rattle.lb_cli_words.specs.Table.{reader_of};
+ghost use Rattle.lb_cli_words.specs.Table.{has_value, reader_of};
 ghost use Rattle.lb_cli_words.specs.Given.{files_of, given_of};
-ghost use Rattle.lb_cli_words.specs.declared.own_option.OwnOption.TheVariants.{Table};
 
 use crate::operands::{asks_help_within, is_end, one_operand};
 use crate::word::{attached, behind_f, behind_hyphen, is_operand, name_and_value};
@@ -18,6 +17,8 @@ pub(crate) enum OwnOption {
     Sheet,
     /// `--table`.
     Table,
+    /// `--all`.
+    All,
     /// `--pins PINS`, also as `--pins=PINS`.
     Pins,
     /// `--pins-every TIME`, also as `--pins-every=TIME`.
@@ -35,12 +36,13 @@ impl OwnOption {
     /// Reads the option at the front of the words.
     pub(crate) fn read<'a>(self, words: &'a [&'a str]) -> Option<Given<'a>>
         ensures read { given_of result ≡ reader_of self (texts words.now) }
-        ensures valued { self ≢ Table → IfSome result (λ given. IsSome given.value) }
+        ensures valued { IsTrue (has_value self) → IfSome result (λ given. IsSome given.value) }
     {
         match self {
             OwnOption::File => file_option(words),
             OwnOption::Sheet => named_option("--sheet", words),
-            OwnOption::Table => table_option(words),
+            OwnOption::Table => flag("--table", words),
+            OwnOption::All => flag("--all", words),
             OwnOption::Pins => named_option("--pins", words),
             OwnOption::PinsEvery => named_option("--pins-every", words),
         }
@@ -67,11 +69,11 @@ fn named_option<'a>(name: &str, words: &'a [&'a str]) -> Option<Given<'a>>
     value_of(value, rest)
 }
 
-fn table_option<'a>(words: &'a [&'a str]) -> Option<Given<'a>>
-    ensures { given_of result ≡ flagged (codes "--table") (texts words.now) }
+fn flag<'a>(name: &str, words: &'a [&'a str]) -> Option<Given<'a>>
+    ensures { given_of result ≡ flagged name.now (texts words.now) }
 {
     let (word, rest) = words.split_first()?;
-    (*word == "--table").then_some(Given { value: None, rest })
+    (*word == name).then_some(Given { value: None, rest })
 }
 
 /// A value in the option's own word, or else the next word.
@@ -100,7 +102,7 @@ impl OwnOption {
     /// The option's value and the one operand, where the words are these two in either order.
     pub(crate) fn files_with<'a>(self, words: &'a [&'a str]) -> Option<(Option<&'a str>, &'a str)>
         ensures files { files_of result ≡ files_with (taken_out (reader_of self)) 1 (texts words.now) }
-        ensures valued { self ≢ Table → IfSome result (λ files. IsSome files.0) }
+        ensures valued { IsTrue (has_value self) → IfSome result (λ files. IsSome files.0) }
     {
         if let Some(given) = self.read(words) {
             return Some((given.value, one_operand(given.rest)?));

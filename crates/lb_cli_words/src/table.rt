@@ -1,13 +1,14 @@
 //! The table of commands, as words are read by it.
-ghost use Rattle.std.specs.Prelude.{◌≡◌, ◌∷◌, [], option_map};
-ghost use Rattle.lb_cli_words.specs.Words.{asks_help_with, files_with, texts};
-ghost use Rattle.lb_cli_words.specs.Table.{asks_help, asks_help_behind, reader_of, row_behind, row_in, row_of};
+ghost use Rattle.std.specs.Prelude.{◌≡◌, ◌∷◌, [], IfSome, IsSome, option_map};
+ghost use Rattle.lb_cli_words.specs.Given.{given_of};
+ghost use Rattle.lb_cli_words.specs.Words.{asks_help_with, files_with, in_turn, texts};
+ghost use Rattle.lb_cli_words.specs.Table.{all_and_file, asks_help, asks_help_behind, check_asks_help, reader_of, row_behind, row_in, row_of};
 ghost use Rattle.lb_cli_words.specs.Table.{check_row, plan_row, replay_row, run_row, verify_row, version_row};
-ghost use Rattle.lb_cli_words.specs.declared.own_option.OwnOption.TheVariants.{File};
+ghost use Rattle.lb_cli_words.specs.declared.own_option.OwnOption.TheVariants.{All, File};
 
 use crate::Job;
 use crate::operands::{asks_help_within, is_end, one_operand, two_operands};
-use crate::own_option::OwnOption;
+use crate::own_option::{Given, OwnOption};
 use crate::run_options::RunOptions;
 use crate::word::is_help;
 
@@ -58,8 +59,11 @@ fn plan<'a>(words: &'a [&'a str]) -> Option<Job<'a>>
 fn check<'a>(words: &'a [&'a str]) -> Option<Job<'a>>
     ensures { option_map row_of result ≡ check_row (texts words.now) }
 {
-    let file = only_file(words)?;
-    Some(Job::Check { file })
+    if let Some(file) = only_file(words) {
+        return Some(Job::Check { file });
+    }
+    let file = file_and_all(words)?;
+    Some(Job::CheckAll { file })
 }
 
 /// The value of `-f`, where nothing else is in the words.
@@ -69,6 +73,46 @@ fn only_file<'a>(words: &'a [&'a str]) -> Option<&'a str>
     let given = OwnOption::File.read(words)?;
     let file = given.value?;
     is_end(given.rest).then_some(file)
+}
+
+/// The value of `-f`, where `--all` is next to it, and nothing else is in the words.
+fn file_and_all<'a>(words: &'a [&'a str]) -> Option<&'a str>
+    ensures { option_map (λ file. file.now ∷ []) result ≡ files_with all_and_file 0 (texts words.now) }
+{
+    let given = all_and_file(words)?;
+    let file = given.value?;
+    is_end(given.rest).then_some(file)
+}
+
+/// `--all` and `-f` at the front of the words, in either order.
+fn all_and_file<'a>(words: &'a [&'a str]) -> Option<Given<'a>>
+    ensures read { given_of result ≡ all_and_file (texts words.now) }
+    ensures valued { IfSome result (λ given. IsSome given.value) }
+{
+    if let Some(given) = all_before_file(words) {
+        return Some(given);
+    }
+    file_before_all(words)
+}
+
+fn all_before_file<'a>(words: &'a [&'a str]) -> Option<Given<'a>>
+    ensures read { given_of result ≡ in_turn (reader_of All) (reader_of File) (texts words.now) }
+    ensures valued { IfSome result (λ given. IsSome given.value) }
+{
+    let all = OwnOption::All.read(words)?;
+    OwnOption::File.read(all.rest)
+}
+
+fn file_before_all<'a>(words: &'a [&'a str]) -> Option<Given<'a>>
+    ensures read { given_of result ≡ in_turn (reader_of File) (reader_of All) (texts words.now) }
+    ensures valued { IfSome result (λ given. IsSome given.value) }
+{
+    let file = OwnOption::File.read(words)?;
+    let all = OwnOption::All.read(file.rest)?;
+    Some(Given {
+        value: file.value,
+        rest: all.rest,
+    })
 }
 
 fn replay<'a>(words: &'a [&'a str]) -> Option<Job<'a>>
@@ -111,18 +155,38 @@ fn asks_help_behind(command: &str, words: &[&str]) -> bool
     match command {
         "verify" => asks_help_within(1, words) || OwnOption::Sheet.asks_help(words),
         "plan" => asks_help_within(1, words) || OwnOption::Table.asks_help(words),
-        "check" => asks_help_within(0, words) || file_asks_help(words),
+        "check" => check_asks_help(words),
         "replay" => asks_help_within(2, words),
         "run" => asks_help_within(0, RunOptions::read(words).rest),
         _ => false,
     }
 }
 
-/// Whether help is asked for after the value of `-f`.
-fn file_asks_help(words: &[&str]) -> bool
-    ensures { result ≡ asks_help_with (reader_of File) 0 (texts words.now) }
+/// Whether help is asked for after none, one or both of the options of `check`.
+fn check_asks_help(words: &[&str]) -> bool
+    ensures { result ≡ check_asks_help (texts words.now) }
 {
-    match OwnOption::File.read(words) {
+    asks_help_within(0, words)
+        || asks_help_after(OwnOption::File, words)
+        || asks_help_after(OwnOption::All, words)
+        || asks_help_after_both(words)
+}
+
+/// Whether help is asked for after the option.
+fn asks_help_after(option: OwnOption, words: &[&str]) -> bool
+    ensures { result ≡ asks_help_with (reader_of option) 0 (texts words.now) }
+{
+    match option.read(words) {
+        Some(given) => asks_help_within(0, given.rest),
+        None => false,
+    }
+}
+
+/// Whether help is asked for after `--all` and `-f`.
+fn asks_help_after_both(words: &[&str]) -> bool
+    ensures { result ≡ asks_help_with all_and_file 0 (texts words.now) }
+{
+    match all_and_file(words) {
         Some(given) => asks_help_within(0, given.rest),
         None => false,
     }

@@ -40,6 +40,10 @@ fn perform(rt: &HostRuntime, job: Job<'_>) -> Option<u8> {
         Job::Plan { file } => Some(plan_file(alloc, rt, file, out, err)),
         Job::PlanTable { file } => Some(tables_file(alloc, rt, file, out, err)),
         Job::Version => Some(tell_version(out, err)),
-        Job::Check { .. } | Job::Replay { .. } | Job::Run { .. } | Job::RunWithPins { .. } => None,
+        Job::Check { .. }
+        | Job::CheckAll { .. }
+        | Job::Replay { .. }
+        | Job::Run { .. }
+        | Job::RunWithPins { .. } => None,
     }
 }
