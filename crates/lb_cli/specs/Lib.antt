@@ -1,2 +1,4 @@
+pub mod AllFaults
 pub mod Checking
+pub mod CheckingAll
 pub mod Verified

@@ -32,22 +32,19 @@ pub fn check<R: Read, W: Write>(
     ensures silent { OnNoAnswer result (out.new ≡ out.old) }
 {
     let text = whole(alloc, file)?;
-    let report = Report::of(alloc, &text)?;
-    match out.write_all(&report.text) {
-        Ok(()) => Ok(report.is_valid),
-        Err(_) => Err(JobError::CannotWrite),
-    }
+    Report::of(alloc, &text)?.write(out)
 }
 
 /// What is printed of a text, and whether it is a valid configuration.
 #[derive(Drop)]
-struct Report {
-    is_valid: bool,
-    text: Vec<u8>,
+pub(crate) struct Report {
+    pub(crate) is_valid: bool,
+    pub(crate) text: Vec<u8>,
 }
 
 impl Report {
-    fn of(alloc: Global, text: &[u8]) -> Result<Report, AllocError>
+    /// What is printed up to the first fault.
+    pub(crate) fn of(alloc: Global, text: &[u8]) -> Result<Report, AllocError>
         ensures valid { IfOk result (λ report. report.is_valid ≡ is_valid (checked_in text.now)) }
         ensures text { IfOk result (λ report. report.text.items ≡ report_of (checked_in text.now)) }
     {
@@ -61,6 +58,19 @@ impl Report {
                 text: config_fault_line(alloc, &fault)?,
             }),
             Err(ConfigFault::Memory) => Err(AllocError),
+        }
+    }
+
+    /// Writes the report, and returns whether the configuration is valid.
+    pub(crate) fn write<W: Write>(&self, out: &mut Counted<W>) -> Result<bool, JobError>
+        ensures valid { IfOk result (λ valid. valid ≡ self.now.is_valid) }
+        ensures written { OnOk result (Appends out.old.contents out.new.contents self.now.text.items) }
+        ensures cut { OnCannotWrite result (WritesFront out.old out.new self.now.text.items) }
+        ensures silent { OnNoAnswer result (out.new ≡ out.old) }
+    {
+        match out.write_all(&self.text) {
+            Ok(()) => Ok(self.is_valid),
+            Err(_) => Err(JobError::CannotWrite),
         }
     }
 }

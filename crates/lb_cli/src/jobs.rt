@@ -1,4 +1,4 @@
-use crate::check;
+use crate::{check, check_all};
 use lb_cli_ends::{JobError, end, opened, whole};
 use lb_cli_plans::{plan_file, tables_file, tell_version};
 use lb_cli_verify::{verify_file, verify_files};
@@ -33,6 +33,13 @@ pub struct KeptPins<'a> {
     pub every: u32,
 }
 
+/// Which faults of a configuration are reported.
+#[derive(Clone, Copy, Debug, PartialEq, Eq)]
+enum Wanted {
+    FirstFault,
+    AllFaults,
+}
+
 /// How often the pins are written, in milliseconds, where the words don't say.
 const PINS_EVERY: u32 = 10_000;
 
@@ -51,7 +58,8 @@ pub fn perform<'a, R: Files, O: Write, E: Write>(
         Job::Plan { file } => plan_file(alloc, rt, file, out, err),
         Job::PlanTable { file } => tables_file(alloc, rt, file, out, err),
         Job::Version => tell_version(out, err),
-        Job::Check { file } => check_file(alloc, rt, file, out, err),
+        Job::Check { file } => check_file(alloc, rt, file, Wanted::FirstFault, out, err),
+        Job::CheckAll { file } => check_file(alloc, rt, file, Wanted::AllFaults, out, err),
         Job::Replay { config, script } => replay_files(alloc, rt, config, script, out, err),
         Job::Run { file } => return to_run(alloc, rt, file, None, err),
         Job::RunWithPins { file, pins, every } => match every_of(every) {
@@ -93,16 +101,21 @@ fn refuse_time<E: Write>(word: &str, err: &mut E) -> u8 {
     2
 }
 
-/// Does the job `check`.
+/// Does the job `check`, or `check --all`.
 fn check_file<R: Files, O: Write, E: Write>(
     alloc: Global,
     rt: &R,
     path: &str,
+    wanted: Wanted,
     out: &mut O,
     err: &mut E,
 ) -> u8 {
     let mut out = Counted::new(out);
-    end(is_valid_config(alloc, rt, path, &mut out), path, err)
+    end(
+        is_valid_config(alloc, rt, path, wanted, &mut out),
+        path,
+        err,
+    )
 }
 
 /// Does the job `replay`: the one file's script at the backend of the other's configuration, which is judged before anything else
@@ -130,10 +143,14 @@ fn is_valid_config<R: Files, O: Write>(
     alloc: Global,
     rt: &R,
     path: &str,
+    wanted: Wanted,
     out: &mut Counted<O>,
 ) -> Result<bool, JobError> {
     let mut file = opened(rt, path)?;
-    check(alloc, &mut file, out)
+    match wanted {
+        Wanted::FirstFault => check(alloc, &mut file, out),
+        Wanted::AllFaults => check_all(alloc, &mut file, out),
+    }
 }
 
 fn whole_file<R: Files>(alloc: Global, rt: &R, path: &str) -> Result<Vec<u8>, JobError> {

@@ -1,0 +1,89 @@
+-- The faults that `check --all` reports.
+use Rattle.std.proofs.Common.{◌≡◌, ◌∙◌, ◌<◌, ℕ, zero, suc, true, refl, ap, sym, subst, arith, List, [], ◌∷◌, ◌++◌, length, append_assoc, append-nil, if◌then◌else◌}
+use Rattle.std.proofs.Common.{Option, Some, None, Result, Ok, Err, codes}
+use Rattle.std.proofs.lemmas.Fmt.{decimal_digit}
+use Rattle.std.specs.Fmt.{decimal}
+use Rattle.std.specs.List.{flat_map}
+use Rattle.lb_config_sections.specs.declared.cause.LocatedFault.{LocatedFault}
+use Rattle.lb_config_sections.specs.References.{checked_in}
+use Rattle.lb_config_sections.specs.SectionsView.{SectionsView}
+use Rattle.lb_cli_faults.specs.Faults.{fault_line}
+use Rattle.lb_cli.specs.AllFaults.{BeginsAsCheck, OneFaultIsOne, NoOtherIsLeft, last_line, without_lines}
+use Rattle.lb_cli.specs.Checking.{is_valid, report_of}
+use Rattle.lb_cli.specs.CheckingAll.{count_line, faults_after, faults_text, first_faults, full_report, next_fault, without_line}
+use Rattle.lb_cli.specs.declared.check_all_job.TheConstants.{MOST_FAULTS}
+use Rattle.lb_cli.proofs.FaultSteps.{no_fault, one_fault}
+
+-- a valid text
+right : (text : List ℕ) (sections : SectionsView) → checked_in text ≡ Ok sections → full_report text ≡ report_of (checked_in text)
+right text sections is =
+    subst (λ reading. (if is_valid reading then report_of reading else faults_text (first_faults MOST_FAULTS text)) ≡ report_of reading) (sym is) refl
+
+-- a text with a fault
+wrong : (text : List ℕ) (fault : LocatedFault) → checked_in text ≡ Err fault → full_report text ≡ faults_text (first_faults MOST_FAULTS text)
+wrong text fault is =
+    ap (λ reading. if is_valid reading then report_of reading else faults_text (first_faults MOST_FAULTS text)) is
+
+-- the faults behind the first one
+abbrev others : List ℕ → LocatedFault → List LocatedFault
+others text fault = faults_after (Some fault.line) 99 (without_line fault.line text)
+
+first : (text : List ℕ) (fault : LocatedFault) → checked_in text ≡ Err fault → first_faults MOST_FAULTS text ≡ fault ∷ others text fault
+first text fault is = one_fault None 99 text fault (ap (next_fault None) is)
+
+pub begins_as_check : BeginsAsCheck
+begins_as_check text = go (checked_in text) refl
+  where
+    go : (reading : Result SectionsView LocatedFault) → checked_in text ≡ reading → (more : List ℕ) × (full_report text ≡ report_of (checked_in text) ++ more)
+    go (Ok sections) is = ([], right text sections is ∙ sym (append-nil (report_of (checked_in text))))
+    go (Err fault) is =
+        let count : List ℕ = count_line (length (fault ∷ others text fault)) in
+        let more : List ℕ = flat_map fault_line (others text fault) ++ count in (
+          more,
+          wrong text fault is ∙ ap faults_text (first text fault is)
+              ∙ append_assoc (fault_line fault) (flat_map fault_line (others text fault)) count
+              ∙ ap (λ front. front ++ more) (sym (ap report_of is)),
+        )
+
+-- a valid text has no fault
+none_in_valid : (last : Option ℕ) (reading : Result SectionsView LocatedFault) → is_valid reading ≡ true → next_fault last reading ≡ None
+none_in_valid last (Ok sections) valid = refl
+none_in_valid last (Err fault) valid = cc
+
+one_fault_line : count_line 1 ≡ codes "1 fault\n"
+one_fault_line =
+    let number : decimal 1 ≡ 49 ∷ [] = decimal_digit 1 (omega arith) in
+    ap (λ digits. digits ++ codes " fault\n") number
+
+pub one_fault_is_one : OneFaultIsOne
+one_fault_is_one text fault is valid =
+    let left : List ℕ = without_line fault.line text in
+    let no_other = no_fault (Some fault.line) 98 left (none_in_valid (Some fault.line) (checked_in left) valid) in
+    wrong text fault is ∙ ap faults_text (first text fault is ∙ ap (λ more. fault ∷ more) no_other)
+    ∙ ap (λ line. line ++ count_line 1) (append-nil (fault_line fault)) ∙ ap (λ line. fault_line fault ++ line) one_fault_line
+
+-- no other fault is left behind so many faults of any text
+abbrev IsLeft : ℕ → Type 0
+IsLeft most = (last : Option ℕ) (text : List ℕ) → length (faults_after last most text) < most
+    → next_fault (last_line last (faults_after last most text)) (checked_in (without_lines (faults_after last most text) text)) ≡ None
+
+one_more_left : (most : ℕ) → IsLeft most → IsLeft (suc most)
+one_more_left most rest last text few = go (next_fault last (checked_in text)) refl
+  where
+    go : (found : Option LocatedFault) → next_fault last (checked_in text) ≡ found →
+        next_fault (last_line last (faults_after last (suc most) text)) (checked_in (without_lines (faults_after last (suc most) text) text)) ≡ None
+    go None none =
+        subst (λ faults. next_fault (last_line last faults) (checked_in (without_lines faults text)) ≡ None) (sym (no_fault last most text none)) none
+    go (Some fault) some =
+        let all = one_fault last most text fault some in
+        let left : List ℕ = without_line fault.line text in
+        let fewer : length (faults_after (Some fault.line) most left) < most = omega (arith, ap length all) in
+        subst (λ faults. next_fault (last_line last faults) (checked_in (without_lines faults text)) ≡ None) (sym all)
+        (rest (Some fault.line) left fewer)
+
+all_left : (most : ℕ) → IsLeft most
+all_left zero last text few = absurd (omega arith)
+all_left (suc most) last text few = one_more_left most (all_left most) last text few
+
+pub no_other_is_left : NoOtherIsLeft
+no_other_is_left text few = all_left MOST_FAULTS None text few
