@@ -97,23 +97,28 @@ EXPECTED = ("output", "errors", "status", "encoding")
 # check: configurations with their reports
 
 
-def check_step(text: bytes, report: bytes) -> Step:
+def check_words(options: Sequence[str]) -> list[str]:
+    return ["check", *options, "-f", "configuration"]
+
+
+def check_step(text: bytes, report: bytes, options: Sequence[str] = ()) -> Step:
     """Returns a run of `check`, whose status is 0 where the report ends so."""
     status = 0 if report.endswith(line(VALID)) else 1
-    return Step(["check", "-f", "configuration"], {"configuration": text}, report, status=status)
+    return Step(check_words(options), {"configuration": text}, report, status=status)
 
 
 def check_case(source: Source) -> Iterator[Case]:
-    source.only("configuration", *EXPECTED)
-    step = expected_step(source, ["check", "-f", "configuration"], {"configuration": source.text("configuration")})
-    yield Case(source.name(), [step])
+    source.only("configuration", "options", *EXPECTED)
+    words = check_words(source.table.get("options", []))
+    yield Case(source.name(), [expected_step(source, words, {"configuration": source.text("configuration")})])
 
 
 def check_texts(source: Source) -> Iterator[Case]:
     """Each row is a configuration, and its report but for the last line end."""
-    source.only("rows", "encoding")
+    source.only("rows", "options", "encoding")
     for text, report in source.get("rows"):
-        yield Case(source.name(text), [check_step(source.bytes_of(text), line(report))])
+        step = check_step(source.bytes_of(text), line(report), source.table.get("options", []))
+        yield Case(source.name(text), [step])
 
 
 def check_lines(source: Source) -> Iterator[Case]:
