@@ -1,7 +1,7 @@
 //! Jobs whose file breaks while it is read.
 
 use crate::broken::Broken;
-use lb_cli::{JobError, check, plan, plan_tables, sheet_for, verify, verify_for};
+use lb_cli::{JobError, check, check_all, plan, plan_tables, sheet_for, verify, verify_for};
 use lb_types_counted::Counted;
 use std::io::ErrorKind;
 use std::test::Fail;
@@ -23,11 +23,12 @@ fn a_file_that_breaks_can_not_be_read(rt: HostRuntime) -> Result<(), Fail> {
             verify(rt.alloc(), &mut Broken { kind }, &mut out).err(),
             plan(rt.alloc(), &mut Broken { kind }, &mut out).err(),
             check(rt.alloc(), &mut Broken { kind }, &mut out).err(),
+            check_all(rt.alloc(), &mut Broken { kind }, &mut out).err(),
             plan_tables(rt.alloc(), &mut Broken { kind }, &mut out).err(),
             sheet_for(rt.alloc(), &mut Broken { kind }, &mut out).err(),
             verify_for(rt.alloc(), &sheet, &mut Broken { kind }, &mut out).err(),
         ];
-        assert_eq!(rt; told, [Some(error); 6]);
+        assert_eq!(rt; told, [Some(error); 7]);
         assert!(rt; out.into_inner().is_empty());
     }
     Ok(())
