@@ -22,8 +22,8 @@ pub const MOST_FAULTS: usize = 100;
 /// Reads the text of a configuration to its end. Of a valid one it writes what `check` does; else a line for each fault, as
 /// `line 2: 22 UnknownWord`, and then how many there are, as `2 faults`. Returns whether it is valid.
 ///
-/// The first fault is the one that `check` writes. Each further one is the fault of the text without the lines of those before it, so
-/// the text is judged as often as there are faults.
+/// The first fault is the one that `check` writes. Each further one is the fault of the text without the lines of those before it, up to
+/// `MOST_FAULTS`. So each costs a reading of the text.
 ///
 /// The text is read whole: one that is larger than memory fails as out of memory.
 pub fn check_all<R: Read, W: Write>(
