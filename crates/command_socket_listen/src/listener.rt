@@ -20,8 +20,6 @@ const LIMIT_MILLIS: u32 = 10_000;
 #[derive(Debug, Drop)]
 pub struct CommandListener {
     place: Place,
-    /// Whether the path is free again.
-    is_free: AtomicBool,
 }
 
 #[derive(Debug, Drop)]
@@ -53,10 +51,7 @@ impl CommandListener {
                 Place::Path(listener, copy_of(alloc, path)?)
             }
         };
-        Ok(CommandListener {
-            place,
-            is_free: AtomicBool::new(false),
-        })
+        Ok(CommandListener { place })
     }
 
     /// The next operator's connection, or none once `stop` is set. The connection waits at most 10 s for each read and each write. A
@@ -81,17 +76,9 @@ impl CommandListener {
 
     /// Ends listening. A path is free again. The error is the system's, where its socket can't be removed.
     pub fn close<R: Files>(self, rt: &R) -> io::Result<()> {
-        self.free_path(rt)
-    }
-
-    /// Frees the path: no new operator can connect, and another program can listen there. Operators that have connected can still be
-    /// answered. A path is freed once. An address is in use until `close`. The error is the system's, where the socket can't be removed.
-    pub fn free_path<R: Files>(&self, rt: &R) -> io::Result<()> {
-        match &self.place {
-            Place::Path(_, path) if !self.is_free.swap(true, Ordering::SeqCst) => {
-                fs::remove_file(rt, path.as_str())
-            }
-            _ => Ok(()),
+        match self.place {
+            Place::Address(_) => Ok(()),
+            Place::Path(_, path) => fs::remove_file(rt, path.as_str()),
         }
     }
 

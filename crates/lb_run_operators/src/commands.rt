@@ -15,7 +15,6 @@ use lb_desk_ports::Refused;
 use lb_run_floor::{Desks, Floor, Host, Seating, SharedGate, leave_all, seats};
 use lb_types::Moment;
 use std::alloc::{AllocError, Global};
-use std::fs::Files;
 use std::sync::atomic::{AtomicBool, Ordering};
 use std::thread;
 use std::thread::Scope;
@@ -31,9 +30,8 @@ const ROOM: usize = 4096;
 const LOOK_MILLIS: u64 = 20;
 
 /// Answers operators, some at a time, until the balancer is to end, no worker is left, and what operators asked for by then is done: so
-/// they are answered also after `stop`, while requests are finished and a plan is made. Then the listener's path is free.
-/// `checks_end` is let go once the balancer is to end, and the checks end by that.
-pub fn answer_operators<R: Host + Files, D: Seating<R> + Send + Sync, G: SharedGate<R>>(
+/// they are answered also after `stop`, while requests are finished and a plan is made. `checks_end` is let go once the balancer is to end, and the checks end by that.
+pub fn answer_operators<R: Host, D: Seating<R> + Send + Sync, G: SharedGate<R>>(
     rt: &R,
     floor: &Floor<'_, D, G>,
     listener: &CommandListener,
@@ -42,24 +40,37 @@ pub fn answer_operators<R: Host + Files, D: Seating<R> + Send + Sync, G: SharedG
 ) -> Result<(), AllocError> {
     let end = End::new();
     let end = &end;
+    thread::scope(
+        thread::scope_env(),
+        rt,
+        move |scope| answer_in(rt, scope, floor, listener, bells, checks_end, end),
+    )
+}
+
+/// The same in this scope.
+fn answer_in<'s, E, R: Host, D: Seating<R> + Send + Sync, G: SharedGate<R>>(
+    rt: &'s R,
+    scope: &'s Scope<'s, E>,
+    floor: &'s Floor<'s, D, G>,
+    listener: &'s CommandListener,
+    bells: Vec<Option<Bell>>,
+    checks_end: Sender<()>,
+    end: &'s End,
+) -> Result<(), AllocError> {
     let (busy, none_busy) = bounded(floor.alloc, 1)?;
-    thread::scope(thread::scope_env(), rt, move |scope| {
-        let started = start_operators(rt, scope, floor, listener, &bells, end, busy);
-        if started.is_err() {
-            floor.stop();
-        }
-        drop(bells);
-        floor.wait_for_end(rt);
-        drop(checks_end);
-        wait_for_workers(rt, floor);
-        end.is_near.store(true, Ordering::SeqCst);
-        // Nobody sends: it waits until each thread has let go of its sender.
-        let _ = none_busy.recv(rt);
-        end.is_here.store(true, Ordering::SeqCst);
-        // A file that stays is replaced at the next start.
-        let _ = listener.free_path(rt);
-        started
-    })
+    let started = start_operators(rt, scope, floor, listener, &bells, end, busy);
+    if started.is_err() {
+        floor.stop();
+    }
+    drop(bells);
+    floor.wait_for_end(rt);
+    drop(checks_end);
+    wait_for_workers(rt, floor);
+    end.is_near.store(true, Ordering::SeqCst);
+    // Nobody sends: it waits until each thread has let go of its sender.
+    let _ = none_busy.recv(rt);
+    end.is_here.store(true, Ordering::SeqCst);
+    started
 }
 
 /// How far the end is. Both flags are set once, in their order.
