@@ -30,7 +30,8 @@ const ROOM: usize = 4096;
 const LOOK_MILLIS: u64 = 20;
 
 /// Answers operators, some at a time, until the balancer is to end, no worker is left, and what operators asked for by then is done: so
-/// they are answered also after `stop`, while requests are finished and a plan is made. `checks_end` is let go once the balancer is to end, and the checks end by that.
+/// they are answered also after `stop`, while requests are finished and a plan is made. `checks_end` is let go once the balancer is to
+/// end, and the checks end by that.
 pub fn answer_operators<R: Host, D: Seating<R> + Send + Sync, G: SharedGate<R>>(
     rt: &R,
     floor: &Floor<'_, D, G>,
