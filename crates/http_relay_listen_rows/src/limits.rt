@@ -1,12 +1,12 @@
 //! How long operators may take.
 
-use command_socket_listen::{CommandListener, CommandStream, LineStream};
+use command_socket_listen::{CommandListener, LineStream};
 use lb_config_arguments::Endpoint;
 use lb_config_keywords::SocketAddress;
 use std::cell::Cell;
 use std::io;
 use std::io::{ErrorKind, Read, Write};
-use std::net::{Ipv4Addr, TcpListener, TcpStream};
+use std::net::{Ipv4Addr, SocketAddr, TcpListener, TcpStream};
 use std::sync::atomic::{AtomicBool, Ordering};
 use std::test::Fail;
 use std::time::{Clock, Duration};
@@ -27,18 +27,15 @@ impl Clock for Time {
     }
 }
 
-// Both ends of an operator's connection.
-fn ends(rt: &HostRuntime) -> Result<(CommandStream, TcpStream), Fail> {
+// A listener for operators, and where it listens.
+fn listening(rt: &HostRuntime) -> Result<(CommandListener, SocketAddr), Fail> {
     let address = TcpListener::bind(rt, "127.0.0.1:0")?.local_addr()?;
     let endpoint = Endpoint {
         address: Ipv4Addr::LOCALHOST,
         port: address.port(),
     };
     let listener = CommandListener::open(rt, rt.alloc(), &SocketAddress::Tcp(endpoint))?;
-    let far = TcpStream::connect(rt, address)?;
-    let near = listener.next_connection(rt, &AtomicBool::new(false));
-    listener.close(rt)?;
-    Ok((near.ok_or("a connection")?, far))
+    Ok((listener, address))
 }
 
 /// A call of one byte.
@@ -104,8 +101,12 @@ fn operators_have_their_limits(rt: HostRuntime) -> Result<(), Fail> {
             millis: Cell::new(0),
         };
         let is_over = AtomicBool::new(false);
-        let (near, mut far) = ends(&rt)?;
+        let (listener, address) = listening(&rt)?;
+        let mut far = TcpStream::connect(&rt, address)?;
         far.write_all(b"show")?;
+        let Some(near) = listener.next_connection(&rt, &is_over) else {
+            return Err(Fail::new("no connection"));
+        };
         let mut line = LineStream::new(&time, &is_over, near);
         for (call, moment, times_out) in *calls {
             time.millis.set(*moment);
