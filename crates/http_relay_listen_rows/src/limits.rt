@@ -6,7 +6,8 @@ use lb_config_keywords::SocketAddress;
 use std::cell::Cell;
 use std::io;
 use std::io::{ErrorKind, Read, Write};
-use std::net::{Ipv4Addr, SocketAddr, TcpListener, TcpStream};
+use std::net::{Ipv4Addr, Net, SocketAddr, TcpListener, TcpStream};
+use std::sync::Wait;
 use std::sync::atomic::{AtomicBool, Ordering};
 use std::test::Fail;
 use std::time::{Clock, Duration};
@@ -93,33 +94,58 @@ fn is_as_expected(moved: io::Result<usize>, times_out: bool) -> bool {
     }
 }
 
+// Which of the calls is the first that doesn't do what is expected, if one is.
+fn first_wrong(
+    time: &Time,
+    is_over: &AtomicBool,
+    line: &mut LineStream<'_, Time>,
+    over_at: Option<u64>,
+    calls: &[(Call, u64, bool)],
+) -> Option<usize> {
+    for (place, (call, moment, times_out)) in calls.iter().enumerate() {
+        time.millis.set(*moment);
+        if over_at.is_some_and(|over| over <= *moment) {
+            is_over.store(true, Ordering::SeqCst);
+        }
+        let moved = match call {
+            Call::Read => line.read(&mut [0; 1]),
+            Call::Write => line.write(b"x"),
+        };
+        if !is_as_expected(moved, *times_out) {
+            return Some(place);
+        }
+    }
+    None
+}
+
+// The same over a connection of its own.
+fn first_wrong_of<R: Wait + Clock + Net<Stream = TcpStream>>(
+    rt: &R,
+    listener: &CommandListener,
+    address: SocketAddr,
+    over_at: Option<u64>,
+    calls: &[(Call, u64, bool)],
+) -> io::Result<Option<usize>> {
+    let mut far = TcpStream::connect(rt, address)?;
+    far.write_all(b"show")?;
+    let is_over = AtomicBool::new(false);
+    let Some(near) = listener.next_connection(rt, &is_over) else {
+        return Err(ErrorKind::NotConnected.into());
+    };
+    let time = Time {
+        millis: Cell::new(0),
+    };
+    let mut line = LineStream::new(&time, &is_over, near);
+    Ok(first_wrong(&time, &is_over, &mut line, over_at, calls))
+}
+
 // Each limit ends the call that comes after it, and none before.
 #[test]
 fn operators_have_their_limits(rt: HostRuntime) -> Result<(), Fail> {
+    let (listener, address) = listening(&rt)?;
     for (over_at, calls) in LIMITS {
-        let time = Time {
-            millis: Cell::new(0),
-        };
-        let is_over = AtomicBool::new(false);
-        let (listener, address) = listening(&rt)?;
-        let mut far = TcpStream::connect(&rt, address)?;
-        far.write_all(b"show")?;
-        let Some(near) = listener.next_connection(&rt, &is_over) else {
-            return Err(Fail::new("no connection"));
-        };
-        let mut line = LineStream::new(&time, &is_over, near);
-        for (call, moment, times_out) in *calls {
-            time.millis.set(*moment);
-            if over_at.is_some_and(|over| over <= *moment) {
-                is_over.store(true, Ordering::SeqCst);
-            }
-            let moved = match call {
-                Call::Read => line.read(&mut [0; 1]),
-                Call::Write => line.write(b"x"),
-            };
-            let is_so = is_as_expected(moved, *times_out);
-            assert!(rt; is_so, "{over_at:?}, {call:?}, {moment}");
-        }
+        let wrong = first_wrong_of(&rt, &listener, address, *over_at, calls)?;
+        assert!(rt; wrong.is_none(), "{over_at:?}, {wrong:?}");
     }
     Ok(())
 }
