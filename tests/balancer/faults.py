@@ -2,6 +2,7 @@
 
 from __future__ import annotations
 
+import contextlib
 import re
 import signal
 import socket
@@ -12,7 +13,7 @@ from .answers import CONTINUE, own
 from .cases import PATIENCE, case, expect, expect_equal, wait_until
 from .clients import Client, ask, at_once, get
 from .farms import HOST, LIMITS, TABLE, Balancer, Farm, ends_well, listen, section, server
-from .hostile import DARKENED, darken
+from .hostile import DARKENED, dark_server, darken
 from .origins import Gate, Handler, Talk, answers, response, sends
 
 A = response(b"a")
@@ -417,6 +418,21 @@ def a_client_that_resets_while_its_server_is_waited_for_gives_its_connection_bac
     gate.open()
     expect_equal("another client's answer", ask(port, GET), A)
     ends_well(balancer)
+
+
+@case
+def a_client_that_resets_while_its_server_is_dialled_gives_its_connection_back(farm: Farm) -> None:
+    with contextlib.ExitStack() as stack:
+        port, dark = farm.port(), dark_server(stack)
+        balancer = farm.start(listen(port, *LIMITS, server("a", dark, "maxconn 1")))
+        client = Client(port)
+        client.send(GET)
+        wait_until("the dial is begun", lambda: balancer.events("web") == VISIT[:-1])
+        client.reset()
+        # The dial isn't taken, and its limit is 20 s.
+        wait_until("the connection is given back", lambda: balancer.events("web") == VISIT, 3)
+        expect_equal("events", balancer.events("web"), VISIT)
+        ends_well(balancer)
 
 
 @case

@@ -439,20 +439,20 @@ def a_balancer_that_is_killed_while_it_writes_leaves_a_whole_file(farm: Farm) ->
     port, a, b = farm.port(), farm.origin(), farm.origin()
     path = kept(farm, "--pins-every", "1ms")
     path.write_text("stickypins 1\nbackend web\n" + "".join(f"pin first{number} - a 1 1\n" for number in range(900)) + "end\n")
-    dice, broken_off = random.Random(1), 0
+    dice, broken_off, pins = random.Random(1), 0, pin_lines(path.read_text())
     for turn in range(200):
         balancer = farm.start(sections(port, a=a, b=b))
-        expect("all come back", reports_of(balancer)[0].endswith(" left out 0"))
+        expect_equal(f"turn {turn}: all come back", reports_of(balancer)[0], f"pins web kept {len(pins)} left out 0")
         visitors = Visitors(port, 100)
-        # Some run for longer than a second, in which a write is done on a machine that is busy with other cases too.
-        time.sleep(dice.uniform(0, 0.2) if turn % 20 else 2)
+        # Some run for longer than a second, in which a write is done on a machine that is busy with other cases too. The interval is 1 ms.
+        time.sleep(dice.uniform(0, 0.2) if turn % 5 else dice.uniform(1.2, 2))
         killed = time.monotonic()
         balancer.end(signal.SIGKILL)
         visitors.end()
         broken_off += path.with_name("pins.new").exists()
-        pins = pin_lines(path.read_text())
-        expect(f"turn {turn}: the pins of the start", len(pins) >= 900)
+        before, pins = pins, pin_lines(path.read_text())
         there = {line.split()[1] for line in pins}
+        expect_equal(f"turn {turn}: pins of the start that aren't there", {line.split()[1] for line in before} - there, set())
         due = {key for key, first in visitors.first.items() if first < killed - 1}
         expect_equal(f"turn {turn}: pins that are older than a second and aren't there", due - there, set())
     expect("a write was under way at some of these ends", broken_off > 0)
