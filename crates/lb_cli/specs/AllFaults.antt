@@ -2,19 +2,21 @@
 use Rattle.std.specs.Prelude.{◌≡◌, ◌<◌, ℕ, true, List, [], ◌∷◌, ◌++◌, length, Option, Some, None, Err, codes}
 use Rattle.lb_config_sections.specs.declared.cause.LocatedFault.{LocatedFault}
 use Rattle.lb_config_sections.specs.References.{checked_in}
+use Rattle.lb_config_hints.specs.declared.hint.Hint.{Hint}
 use Rattle.lb_cli_faults.specs.Faults.{fault_line}
 use Rattle.lb_cli.specs.Checking.{is_valid, report_of}
-use Rattle.lb_cli.specs.CheckingAll.{first_faults, full_report, next_fault, without_line}
+use Rattle.lb_cli.specs.CheckingAll.{IsFullReport, first_faults, hint_line, next_fault, without_line}
 use Rattle.lb_cli.specs.declared.check_all_job.TheConstants.{MOST_FAULTS}
 
 -- what `check` prints of a text is the beginning of what `check --all` does
 abbrev pub BeginsAsCheck : Type 0
-BeginsAsCheck = (text : List ℕ) → (more : List ℕ) × (full_report text ≡ report_of (checked_in text) ++ more)
+BeginsAsCheck = (text report : List ℕ) → IsFullReport text report → (more : List ℕ) × (report ≡ report_of (checked_in text) ++ more)
 
--- if a text is valid without the line of its fault, this fault is reported, and that there is one
+-- if a text is valid without the line of its fault, this fault is reported, perhaps a hint, and that there is one
 abbrev pub OneFaultIsOne : Type 0
-OneFaultIsOne = (text : List ℕ) (fault : LocatedFault) → checked_in text ≡ Err fault → is_valid (checked_in (without_line fault.line text)) ≡ true
-    → full_report text ≡ fault_line fault ++ codes "1 fault\n"
+OneFaultIsOne = (text report : List ℕ) (fault : LocatedFault) → IsFullReport text report → checked_in text ≡ Err fault
+    → is_valid (checked_in (without_line fault.line text)) ≡ true
+    → (hint : Option Hint) × (report ≡ fault_line fault ++ hint_line hint ++ codes "1 fault\n")
 
 -- the text without the lines of these faults
 abbrev pub without_lines : List LocatedFault → List ℕ → List ℕ

@@ -1,10 +1,13 @@
--- What `check --all` prints of a configuration: what `check` does if it is valid; else a line for each fault that is found, and how many
--- these are. The first one is the text's; each further one is that of the text without the lines of those before it.
-use Rattle.std.specs.Prelude.{ℕ, zero, suc, ◌+◌, ◌==◌, nat_lt, Bool, false, List, [], ◌∷◌, ◌++◌, length, Option, Some, None}
+-- What `check --all` prints of a configuration: what `check` does if it is valid, and warnings; else a line for each fault that is found, with
+-- a hint or without, and how many these are. The first one is the text's; each further one is that of the text without the lines of those before it.
+-- Nothing is said of what hints and warnings there are.
+use Rattle.std.specs.Prelude.{◌≡◌, ℕ, zero, suc, ◌+◌, ◌==◌, nat_lt, Bool, false, List, [], ◌∷◌, ◌++◌, map, length, Option, Some, None}
 use Rattle.std.specs.Prelude.{Result, Ok, Err, codes, if◌then◌else◌}
 use Rattle.std.specs.Fmt.{decimal}
 use Rattle.std.specs.List.{flat_map}
 use Rattle.std.specs.Option.{option_map_or}
+use Rattle.lb_config_hints.specs.declared.hint.Hint.{Hint}
+use Rattle.lb_config_hints.specs.Hints.{hint_words}
 use Rattle.lb_config_sections.specs.declared.cause.LocatedFault.{LocatedFault}
 use Rattle.lb_config_sections.specs.References.{checked_in}
 use Rattle.lb_config_sections.specs.SectionsView.{SectionsView}
@@ -51,11 +54,31 @@ count_words count = if count == 1 then codes " fault\n" else if nat_lt count MOS
 abbrev pub count_line : ℕ → List ℕ
 count_line count = decimal count ++ count_words count
 
--- the lines of the faults, and how many these are
-abbrev pub faults_text : List LocatedFault → List ℕ
-faults_text faults = flat_map fault_line faults ++ count_line (length faults)
+-- a line of what is no fault, which begins with two spaces
+abbrev pub aside : List ℕ → List ℕ
+aside words = codes "  " ++ words ++ 10 ∷ []
 
--- what is printed of a text
-abbrev pub full_report : List ℕ → List ℕ
-full_report text =
-    if is_valid (checked_in text) then report_of (checked_in text) else faults_text (first_faults MOST_FAULTS text)
+-- the line of a hint, if there is one
+abbrev pub hint_line : Option Hint → List ℕ
+hint_line None = []
+hint_line (Some hint) = aside (hint_words hint)
+
+-- the line of a fault, and that of its hint
+abbrev pub said_lines : LocatedFault × Option Hint → List ℕ
+said_lines said = fault_line said.0 ++ hint_line said.1
+
+-- the lines of the faults with their hints, and how many faults these are
+abbrev pub faults_text : List (LocatedFault × Option Hint) → List ℕ
+faults_text faults = flat_map said_lines faults ++ count_line (length faults)
+
+-- what is printed of a text with these faults and hints, and these warnings
+abbrev pub full_report : List (LocatedFault × Option Hint) → List (List ℕ) → List ℕ → List ℕ
+full_report faults concerns text =
+    if is_valid (checked_in text) then report_of (checked_in text) ++ flat_map aside concerns else faults_text faults
+
+-- what is printed of a text: its faults, each with a hint or without, or warnings
+pub record IsFullReport (text report : List ℕ) : Type 0 where
+  pub faults : List (LocatedFault × Option Hint)
+  pub found : map (λ said. said.0) faults ≡ first_faults MOST_FAULTS text
+  pub concerns : List (List ℕ)
+  pub is : report ≡ full_report faults concerns text

@@ -1,17 +1,19 @@
-ghost use Rattle.std.specs.Prelude.{◌≡◌, ◌++◌, Err, OnOk, IfOk, IfSome};
+ghost use Rattle.std.specs.Prelude.{◌≡◌, ◌++◌, ℕ, List, Err, OnOk, IfOk, IfSome, map};
 ghost use Rattle.std.specs.List.{flat_map};
 ghost use Rattle.std.specs.Io.KnownBytes.{Appends};
 ghost use Rattle.lb_types_counted.specs.Writers.{WritesFront};
 ghost use Rattle.lb_config_sections.specs.References.{checked_in};
-ghost use Rattle.lb_cli_faults.specs.Faults.{fault_line};
 ghost use Rattle.lb_cli.specs.Checking.{is_valid};
-ghost use Rattle.lb_cli.specs.CheckingAll.{count_line, count_words, faults_text, first_faults, full_report, is_at, next_fault, without_line};
+ghost use Rattle.lb_cli.specs.CheckingAll.{IsFullReport, aside, count_line, count_words, faults_text, first_faults, hint_line, is_at, next_fault, said_lines, without_line};
 ghost use Rattle.lb_cli_ends.specs.Hindered.{OnCannotWrite, OnNoAnswer};
 
 use crate::check_job::Report;
 use lb_cli_ends::{JobError, whole};
 use lb_cli_faults::config_fault_line;
+use lb_config::read_config;
+use lb_config_hints::{Hint, concerns_of, hint_for};
 use lb_config_sections::{ConfigFault, LocatedFault, read_checked};
+use lb_config_words::{Line, Word, WordsFault, read_lines};
 use lb_types::Counted;
 use std::alloc::{AllocError, Global};
 use std::io::{Read, Write};
@@ -19,8 +21,13 @@ use std::io::{Read, Write};
 /// How many faults `check_all` reports at most.
 pub const MOST_FAULTS: usize = 100;
 
-/// Reads the text of a configuration to its end. Of a valid one it writes what `check` does; else a line for each fault, as
-/// `line 2: 22 UnknownWord`, and then how many there are, as `2 faults`. Returns whether it is valid.
+/// A fault, with what may help.
+type Said = (LocatedFault, Option<Hint>);
+
+/// Reads the text of a configuration to its end. Of a valid one it writes what `check` does, and then warnings of what is surely not
+/// meant, as `  warning: backend web has no timeout server: ..`, in lines that begin with two spaces; else a line for each fault, as
+/// `line 2: 22 UnknownWord`, and then how many there are, as `2 faults`. Under a fault there may be a hint, as `  did you mean timeout?`, in a
+/// line that begins with two spaces. Returns whether the configuration is valid.
 ///
 /// The first fault is the one that `check` writes. Each further one is the fault of the text without the lines of those before it, up to
 /// `MOST_FAULTS`. So each costs a reading of the text.
@@ -33,11 +40,11 @@ pub fn check_all<R: Read, W: Write>(
 ) -> Result<bool, JobError>
     ensures valid { IfOk result (λ valid. IfSome (R.remaining file.old) (λ text. valid ≡ is_valid (checked_in text))) }
     ensures written { OnOk result (IfSome (R.remaining file.old) (λ text.
-        Appends out.old.contents out.new.contents (full_report text))) }
+        (report : List ℕ) × IsFullReport text report × Appends out.old.contents out.new.contents report)) }
 
     // Where it is hindered.
     ensures cut { OnCannotWrite result (IfSome (R.remaining file.old) (λ text.
-        WritesFront out.old out.new (full_report text))) }
+        (report : List ℕ) × IsFullReport text report × WritesFront out.old out.new report)) }
     ensures silent { OnNoAnswer result (out.new ≡ out.old) }
 {
     let text = whole(alloc, file)?;
@@ -47,22 +54,72 @@ pub fn check_all<R: Read, W: Write>(
 /// What is printed of a text if all its faults are wanted.
 fn full_report(alloc: Global, text: &[u8]) -> Result<Report, AllocError>
     ensures valid { IfOk result (λ report. report.is_valid ≡ is_valid (checked_in text.now)) }
-    ensures text { IfOk result (λ report. report.text.items ≡ full_report text.now) }
+    ensures text { IfOk result (λ report. IsFullReport text.now report.text.items) }
 {
     let report = Report::of(alloc, text)?;
     if report.is_valid {
-        return Ok(report);
+        let full = with_concerns(alloc, text, report)?;
+        return Ok(full);
     }
-    let faults = faults_of(alloc, text)?;
+    let lines = lines_of(alloc, text)?;
+    let faults = faults_of(alloc, text, &lines)?;
     Ok(Report {
         is_valid: false,
         text: faults_text(alloc, &faults)?,
     })
 }
 
-/// The faults of the text, as they are found.
-fn faults_of(alloc: Global, text: &[u8]) -> Result<Vec<LocatedFault>, AllocError>
-    ensures { IfOk result (λ faults. faults.items ≡ first_faults MOST_FAULTS text.now) }
+/// The report of a valid text, with what is surely not meant.
+fn with_concerns(alloc: Global, text: &[u8], report: Report) -> Result<Report, AllocError>
+    ensures valid { IfOk result (λ full. full.is_valid ≡ report.is_valid) }
+    ensures text { IfOk result (λ full. (concerns : List (List ℕ)) × (full.text.items ≡ report.text.items ++ flat_map aside concerns)) }
+{
+    let mut full = report;
+    let concerns = concerns_in(alloc, text)?;
+    push_concerns(&mut full.text, &concerns)?;
+    Ok(full)
+}
+
+/// What is valid in a valid text and surely not meant.
+fn concerns_in(alloc: Global, text: &[u8]) -> Result<Vec<Word>, AllocError> {
+    match read_config(alloc, text) {
+        Ok(config) => concerns_of(alloc, &config),
+        Err(ConfigFault::Fault(_)) => Ok(Vec::new(alloc)),
+        Err(ConfigFault::Memory) => Err(AllocError),
+    }
+}
+
+/// Appends a line for each.
+fn push_concerns(text: &mut Vec<u8>, concerns: &[Word]) -> Result<(), AllocError>
+    ensures { OnOk result (text.new.items ≡ text.old.items ++ flat_map aside concerns.now) }
+{
+    for concern in concerns {
+        push_concern(text, concern)?;
+    }
+    Ok(())
+}
+
+fn push_concern(text: &mut Vec<u8>, concern: &Word) -> Result<(), AllocError>
+    ensures { OnOk result (text.new.items ≡ text.old.items ++ aside concern.now) }
+{
+    text.extend_from_slice(b"  ")?;
+    text.extend_from_slice(concern.as_bytes())?;
+    text.extend_from_slice(b"\n")?;
+    Ok(())
+}
+
+/// The lines of the text, for hints. There is none if the text is too long, or not UTF-8.
+fn lines_of(alloc: Global, text: &[u8]) -> Result<Vec<Line>, AllocError> {
+    match read_lines(alloc, text) {
+        Ok(lines) => Ok(lines),
+        Err(WordsFault::Text(_)) => Ok(Vec::new(alloc)),
+        Err(WordsFault::Memory) => Err(AllocError),
+    }
+}
+
+/// The faults of the text with these lines, as they are found.
+fn faults_of(alloc: Global, text: &[u8], lines: &[Line]) -> Result<Vec<Said>, AllocError>
+    ensures { IfOk result (λ faults. map (λ said. said.0) faults.items ≡ first_faults MOST_FAULTS text.now) }
 {
     let mut faults = Vec::new(alloc);
     let mut left = Vec::from_slice(alloc, text)?;
@@ -73,9 +130,18 @@ fn faults_of(alloc: Global, text: &[u8]) -> Result<Vec<LocatedFault>, AllocError
         };
         left = without_line(alloc, &left, fault.line)?;
         last = Some(fault.line);
-        faults.push(fault)?;
+        let hint = hint_at(lines, &fault);
+        faults.push((fault, hint))?;
     }
     Ok(faults)
+}
+
+/// What may help with the fault, by the words of its line.
+fn hint_at(lines: &[Line], fault: &LocatedFault) -> Option<Hint> {
+    match lines.iter().find(|line| line.number() == fault.line) {
+        Some(line) => hint_for(&fault.cause, line.words()),
+        None => hint_for(&fault.cause, &[]),
+    }
 }
 
 /// The fault of a text, unless it is at the line that was left out last.
@@ -129,8 +195,8 @@ fn without_line(alloc: Global, text: &[u8], line: u32) -> Result<Vec<u8>, AllocE
     Ok(kept)
 }
 
-/// The lines of the faults, and how many these are.
-fn faults_text(alloc: Global, faults: &[LocatedFault]) -> Result<Vec<u8>, AllocError>
+/// The lines of the faults with their hints, and how many these are.
+fn faults_text(alloc: Global, faults: &[Said]) -> Result<Vec<u8>, AllocError>
     ensures { IfOk result (λ text. text.items ≡ faults_text faults.now) }
 {
     let mut text = Vec::new(alloc);
@@ -139,21 +205,34 @@ fn faults_text(alloc: Global, faults: &[LocatedFault]) -> Result<Vec<u8>, AllocE
     Ok(text)
 }
 
-/// Appends the lines of the faults to the text.
-fn push_faults(alloc: Global, text: &mut Vec<u8>, faults: &[LocatedFault]) -> Result<(), AllocError>
-    ensures { OnOk result (text.new.items ≡ text.old.items ++ flat_map fault_line faults.now) }
+/// Appends the lines of the faults to the text, each with its hint.
+fn push_faults(alloc: Global, text: &mut Vec<u8>, faults: &[Said]) -> Result<(), AllocError>
+    ensures { OnOk result (text.new.items ≡ text.old.items ++ flat_map said_lines faults.now) }
 {
-    for fault in faults {
-        push_fault(alloc, text, fault)?;
+    for said in faults {
+        push_said(alloc, text, said)?;
     }
     Ok(())
 }
 
-fn push_fault(alloc: Global, text: &mut Vec<u8>, fault: &LocatedFault) -> Result<(), AllocError>
-    ensures { OnOk result (text.new.items ≡ text.old.items ++ fault_line fault.now) }
+fn push_said(alloc: Global, text: &mut Vec<u8>, said: &Said) -> Result<(), AllocError>
+    ensures { OnOk result (text.new.items ≡ text.old.items ++ said_lines said.now) }
 {
-    let line = config_fault_line(alloc, fault)?;
-    text.extend_from_slice(&line)
+    let line = config_fault_line(alloc, &said.0)?;
+    text.extend_from_slice(&line)?;
+    push_hint(text, said.1)
+}
+
+/// Appends the line of the hint, if there is one.
+fn push_hint(text: &mut Vec<u8>, hint: Option<Hint>) -> Result<(), AllocError>
+    ensures { OnOk result (text.new.items ≡ text.old.items ++ hint_line hint) }
+{
+    let Some(hint) = hint else {
+        return Ok(());
+    };
+    text.extend_from_slice(b"  ")?;
+    hint.push(text)?;
+    text.extend_from_slice(b"\n")
 }
 
 /// Appends how many faults there are.

@@ -6,12 +6,12 @@ pub fn plans_are_verified()
     ensures { PlansAreVerified }
 {}
 
-/// What `check` prints of a text is the beginning of what `check --all` prints of it.
+/// What `check` prints of a text is the beginning of what `check --all` prints of it, whatever the hints are.
 pub fn check_all_begins_as_check()
     ensures { BeginsAsCheck }
 {}
 
-/// If a text is valid without the line of its fault, `check --all` prints the line of this fault and `1 fault`.
+/// If a text is valid without the line of its fault, `check --all` prints the line of this fault, perhaps a hint, and `1 fault`.
 pub fn one_fault_is_one()
     ensures { OneFaultIsOne }
 {}

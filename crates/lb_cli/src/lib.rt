@@ -2,7 +2,7 @@
 //! stated function of these bytes.
 //!
 //! Promised: `check` writes the report of `specs/Checking.antt` for its configuration, and nothing else; `check_all` writes that of
-//! `specs/CheckingAll.antt`, which has further faults. Of a report that can't be written a beginning goes out; nothing goes out if the
+//! `specs/CheckingAll.antt`, which has further faults, and hints and warnings of which nothing is said. Of a report that can't be written a beginning goes out; nothing goes out if the
 //! job comes to no report. Start there, and at `perform`, which finds the job's files and returns the program's exit status, that of
 //! `status_of`. The jobs on sheets and plans are those of `lb_cli_plans` and `lb_cli_verify`, re-exported here. `plans_are_verified`
 //! says that what the former write is best for the latter too. `replay` is that of `lb_replay`.
