@@ -219,6 +219,9 @@ fn plan_seated<R: Host, D: Seating<R>, G: SharedGate<R>>(
     notices: &mut Notices,
 )
     requires seat { D.desk_of seat.old ≡ place }
+    ensures { PlansAsTold floor.now.config.now.tries
+        (ledger notices.old (D.Seat.Mover.entries seat.old) (D.Seat.Mover.planned_now seat.old) (D.Seat.Mover.refusals seat.old))
+        (ledger notices.new (D.Seat.Mover.entries seat.new) (D.Seat.Mover.planned_now seat.new) (D.Seat.Mover.refusals seat.new)) }
 {
     plan_at(rt, floor, seat, notices);
 }
