@@ -24,7 +24,7 @@ THREADS = 16
 # Keys that a shell, HAProxy's command line or its list of entries spell in ways of their own.
 HOSTILE = [
     b"a b", b"a;b", b"a\\b", b'q"q', b"it's", b"caf\xc3\xa9", b"a\tb", b"#a", b"$a", b"a=b", b"key=b", b"a\\ b", b"\\", b"\\x41", b"server_id=1",
-    b"-", b"<<", b"a;set server web/web2 state maint", b"x" * 1000,
+    b"-", b"<<", b"a<<", b"<", b"a;set server web/web2 state maint", b"x" * 1000,
 ]  # fmt: skip
 
 
@@ -75,6 +75,23 @@ class Rival:
         parts = at_once(lambda thread: [(key, self.ask(key)) for key in keys[thread::THREADS]], range(THREADS))
         return {key: name for part in parts for key, name in part}
 
+    def tell(self, line: str) -> None:
+        """Sends a command that answers nothing."""
+        with socket.socket(socket.AF_UNIX) as stream:
+            stream.settimeout(PATIENCE)
+            stream.connect(str(self.socket))
+            stream.sendall(f"{line}\n".encode())
+            expect_equal(line, read_to_end(stream).strip(), b"")
+
+    def ask_first(self, keys: list[bytes]) -> dict[bytes, str]:
+        """The servers of these clients, which is the first one for all."""
+        others = NAMES[1:]
+        self.tell(";".join(f"set server web/{name} state maint" for name in others))
+        found = {key: self.ask(key) for key in keys}
+        self.tell(";".join(f"set server web/{name} state ready" for name in others))
+        expect_equal("their servers", set(found.values()), {NAMES[0]})
+        return found
+
     def drain(self, *words: str, answer: str = "") -> Ending:
         """How the script ends, which empties the first server."""
         own = ("--socket", str(self.socket), "--backend", "web", "--stickylb", str(self.farm.program))
@@ -95,7 +112,7 @@ def the_script_empties_a_server_of_haproxy_by_the_fewest_moves(farm: Farm) -> No
         return
     rival = Rival(farm)
     keys = [*HOSTILE, *(b"k%d" % number for number in range(800 - len(HOSTILE)))]
-    before = rival.ask_all(keys)
+    before = rival.ask_first(HOSTILE) | rival.ask_all(keys)
     of_first = {key for key, name in before.items() if name == NAMES[0]}
     done = rival.drain("--yes")
     expect_equal("what went wrong", (done.status, done.err), (0, ""))
