@@ -5,5 +5,6 @@ pub mod Placing
 pub mod Printings
 pub mod Reading
 pub mod Showing
+pub mod Staying
 pub mod Telling
 mod Trimming

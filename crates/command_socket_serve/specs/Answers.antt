@@ -70,6 +70,7 @@ evacuation_text (Err refused) = refused_line refused
 pub record Plans (tries : ℕ) (old new : DeskSeen) (text : List ℕ) : Type 0 where
   pub answer : Result Evacuation Refused
   pub evacuates : Evacuates tries answer old.entries new.entries old.planned_now new.planned_now
+  pub backend : new.backend ≡ old.backend
   pub text_is : text ≡ evacuation_text answer
 
 -- ---- what is shown

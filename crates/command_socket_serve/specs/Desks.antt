@@ -1,7 +1,7 @@
 -- The desks of backends, as one who carries out commands sees them.
-use Rattle.std.specs.Prelude.{◌≡◌, ℕ, List, Some, slice_get, slice_set}
+use Rattle.std.specs.Prelude.{◌≡◌, ℕ, List, Some, map, slice_get, slice_set}
 use Rattle.lb_desk_model.specs.declared.entry.Entry.{Entry}
-use Rattle.lb_desk_steer.specs.Steering.{OpenedBackend}
+use Rattle.lb_desk_model.specs.Backends.{OpenedBackend}
 
 pub record DeskSeen : Type 0 where
   -- the events that were made, each with its reply
@@ -13,6 +13,10 @@ pub record DeskSeen : Type 0 where
 
 abbrev pub desk_seen : {D : Type 0} → (D → List Entry) → (D → ℕ) → (D → OpenedBackend) → D → DeskSeen
 desk_seen entries planned_now backend desk = record { entries = entries desk; planned_now = planned_now desk; backend = backend desk }
+
+-- the backends that they are at, in their order
+abbrev pub backends_at : {D : Type 0} → (D → DeskSeen) → List D → List OpenedBackend
+backends_at seen desks = map (λ desk. (seen desk).backend) desks
 
 -- this was done at the desk of the backend at the place, and nothing at any other one
 pub record AtDesk {D : Type 0} (seen : D → DeskSeen) (place : ℕ) (desks used : List D) (Is : DeskSeen → DeskSeen → Type 0) : Type 0 where

@@ -142,6 +142,7 @@ pub record TakesSheet (IsText : Result SheetParts Refused → List ℕ → Type 
   pub answer : Result SheetParts Refused
   pub entries : new.entries ≡ old.entries ++ snapshot_entries answer
   pub planned_now : new.planned_now ≡ old.planned_now
+  pub backend : new.backend ≡ old.backend
   pub text_is : IsText answer text
 
 -- the sheet, as it is spelled

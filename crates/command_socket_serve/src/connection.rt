@@ -1,4 +1,5 @@
-ghost use Rattle.std.specs.Prelude.{◌≡◌, length, IfOk};
+ghost use Rattle.std.specs.Prelude.{◌≡◌, map, IfOk};
+ghost use Rattle.lb_desk_backend.specs.Configured.{OpenInOrder};
 ghost use Rattle.command_socket_serve.specs.Desks.{desk_seen};
 ghost use Rattle.std.specs.Io.BufRead.{strip_last};
 ghost use Rattle.command_socket_serve.specs.Lines.{IsTextOf, Serves, line_in};
@@ -31,10 +32,10 @@ pub fn serve_connection<R, S: Steer<R>, G: Gate<R>, T: Told, C: Read + Write>(
     told: &mut T,
     stream: &mut C,
 ) -> Next
-    requires { length desks.old ≡ length console.now.config.backends }
+    requires { OpenInOrder console.now.config.backends (map S.backend desks.old) }
     ensures serves { Serves (desk_seen S.entries S.planned_now S.backend) console.now (C.remaining stream.old) desks.old desks.new
         (T.told told.old) (T.told told.new) result }
-    ensures seats { length desks.new ≡ length desks.old }
+    ensures backends { map S.backend desks.new ≡ map S.backend desks.old }
 {
     let text = match read_text(alloc, stream) {
         Ok(text) => text,

@@ -1,6 +1,7 @@
-ghost use Rattle.std.specs.Prelude.{◌≡◌, length, IfOk, Ok};
+ghost use Rattle.std.specs.Prelude.{◌≡◌, length, map, IfOk, Ok};
 ghost use Rattle.std.specs.List.{list_any};
 ghost use Rattle.command_socket_serve.specs.Answers.{looked_up};
+ghost use Rattle.lb_desk_backend.specs.Configured.{OpenInOrder};
 ghost use Rattle.command_socket_serve.specs.Desks.{desk_seen};
 ghost use Rattle.command_socket_serve.specs.Lines.{AnswersLine, AreAnswered, asked_in, next_behind, is_stop};
 ghost use Rattle.command_socket_serve.specs.Outcomes.{Does};
@@ -55,10 +56,10 @@ pub fn answer_line<R, S: Steer<R>, G: Gate<R>, T: Told, W: Write>(
     line: &[u8],
     out: &mut Counted<W>,
 ) -> Answered
-    requires { length desks.old ≡ length console.now.config.backends }
+    requires { OpenInOrder console.now.config.backends (map S.backend desks.old) }
     ensures answers { Does (AnswersLine (desk_seen S.entries S.planned_now S.backend) console.now line.now desks.old desks.new result.next)
         (T.told told.old) (T.told told.new) out.old (Ok tt) out.new result.printed }
-    ensures seats { length desks.new ≡ length desks.old }
+    ensures backends { map S.backend desks.new ≡ map S.backend desks.old }
 {
     let Ok(commands) = read_line(alloc, line) else {
         let printed = print_refused(out, Ok(()), Refused::Memory);

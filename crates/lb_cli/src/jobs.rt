@@ -1,5 +1,6 @@
 use crate::{check, check_all};
 use lb_cli_ends::{JobError, end, opened, whole};
+use lb_cli_format::format_file;
 use lb_cli_plans::{plan_file, tables_file, tell_version};
 use lb_cli_verify::{verify_file, verify_files};
 use lb_cli_words::Job;
@@ -57,6 +58,7 @@ pub fn perform<'a, R: Files, O: Write, E: Write>(
         Job::VerifyForSheet { sheet, plan } => verify_files(alloc, rt, sheet, plan, out, err),
         Job::Plan { file } => plan_file(alloc, rt, file, out, err),
         Job::PlanTable { file } => tables_file(alloc, rt, file, out, err),
+        Job::Format { file } => format_file(alloc, rt, file, out, err),
         Job::Version => tell_version(out, err),
         Job::Check { file } => check_file(alloc, rt, file, Wanted::FirstFault, out, err),
         Job::CheckAll { file } => check_file(alloc, rt, file, Wanted::AllFaults, out, err),

@@ -25,6 +25,9 @@ verify_app = with_rule (with_rule (new_app (codes "verify")) (named_rule (codes 
 abbrev pub plan_app : App
 plan_app = with_rule (with_rule (new_app (codes "plan")) (flag_rule (codes "table"))) file_rule
 
+abbrev pub format_app : App
+format_app = with_rule (new_app (codes "format")) file_rule
+
 abbrev pub check_app : App
 check_app = with_rule (with_rule (new_app (codes "check")) file_option_rule) (flag_rule (codes "all"))
 
@@ -54,5 +57,5 @@ program_app = with_rule plain_app (flag_rule (codes "version"))
 
 -- the program with its commands
 abbrev pub commands_app : App
-commands_app = with_subcommand (with_subcommand (with_subcommand (with_subcommand (with_subcommand program_app
-    verify_app.top) plan_app.top) check_app.top) replay_app.top) run_app.top
+commands_app = with_subcommand (with_subcommand (with_subcommand (with_subcommand (with_subcommand (with_subcommand program_app
+    verify_app.top) plan_app.top) format_app.top) check_app.top) replay_app.top) run_app.top

@@ -5,7 +5,7 @@ use Rattle.std.specs.Option.{option_or}
 use Rattle.lb_cli_words.specs.Words.{Text, Reader, flagged, lettered, named, both, operands_of, files_with, taken_out}
 use Rattle.lb_cli_words.specs.Words.{is_help, asks_help_within, asks_help_with}
 use Rattle.lb_cli_words.specs.declared.job.Job.{Job}
-use Rattle.lb_cli_words.specs.declared.job.Job.TheVariants.{Verify, VerifyForSheet, Plan, PlanTable, Check, CheckAll, Replay, Run, RunWithPins, Version}
+use Rattle.lb_cli_words.specs.declared.job.Job.TheVariants.{Verify, VerifyForSheet, Plan, PlanTable, Format, Check, CheckAll, Replay, Run, RunWithPins, Version}
 use Rattle.lb_cli_words.specs.declared.own_option.OwnOption.{OwnOption}
 use Rattle.lb_cli_words.specs.declared.own_option.OwnOption.TheVariants.{File, Sheet, Table, All, Pins, PinsEvery}
 use Rattle.lb_cli_words.specs.RunWords.{options_in, row_of_options}
@@ -20,6 +20,7 @@ row_of (Verify file) = (codes "verify", file.now ∷ [])
 row_of (VerifyForSheet sheet plan) = (codes "verify --sheet", sheet.now ∷ plan.now ∷ [])
 row_of (Plan file) = (codes "plan", file.now ∷ [])
 row_of (PlanTable file) = (codes "plan --table", file.now ∷ [])
+row_of (Format file) = (codes "format", file.now ∷ [])
 row_of (Check file) = (codes "check", file.now ∷ [])
 row_of (CheckAll file) = (codes "check --all", file.now ∷ [])
 row_of (Replay config script) = (codes "replay", config.now ∷ script.now ∷ [])
@@ -59,6 +60,9 @@ abbrev pub plan_row : List Text → Option Row
 plan_row words = option_or (as_row (codes "plan") (operands_of 1 words))
     (as_row (codes "plan --table") (files_with (taken_out (reader_of Table)) 1 words))
 
+abbrev pub format_row : List Text → Option Row
+format_row words = as_row (codes "format") (operands_of 1 words)
+
 abbrev pub check_row : List Text → Option Row
 check_row words = option_or (as_row (codes "check") (files_with (reader_of File) 0 words))
     (as_row (codes "check --all") (files_with all_and_file 0 words))
@@ -80,6 +84,7 @@ abbrev pub row_behind : Text → List Text → Option Row
 row_behind command words =
     if bytes_eq command (codes "verify") then verify_row words
     else if bytes_eq command (codes "plan") then plan_row words
+    else if bytes_eq command (codes "format") then format_row words
     else if bytes_eq command (codes "check") then check_row words
     else if bytes_eq command (codes "replay") then replay_row words
     else if bytes_eq command (codes "run") then run_row words
@@ -97,6 +102,7 @@ abbrev pub asks_help_behind : Text → List Text → Bool
 asks_help_behind command words =
     if bytes_eq command (codes "verify") then asks_help_within 1 words || asks_help_with (taken_out (reader_of Sheet)) 1 words
     else if bytes_eq command (codes "plan") then asks_help_within 1 words || asks_help_with (taken_out (reader_of Table)) 1 words
+    else if bytes_eq command (codes "format") then asks_help_within 1 words
     else if bytes_eq command (codes "check") then check_asks_help words
     else if bytes_eq command (codes "replay") then asks_help_within 2 words
     else if bytes_eq command (codes "run") then asks_help_within 0 (options_in words).rest

@@ -2,7 +2,7 @@
 ghost use Rattle.std.specs.Prelude.{◌≡◌, Some, IfOk, IsOkAnd, codes, false};
 ghost use Rattle.clap.specs.Words.{app_of, new_app, new_rule, rule_of, with_rule, with_subcommand};
 ghost use Rattle.clap.specs.declared.builder.command.Command.TheViews.{out-Command as fields_of};
-ghost use Rattle.lb_cli_words.specs.Clap.{check_app, commands_app, plain_app, plan_app, program_app, replay_app, run_app, verify_app};
+ghost use Rattle.lb_cli_words.specs.Clap.{check_app, commands_app, format_app, plain_app, plan_app, program_app, replay_app, run_app, verify_app};
 ghost use Rattle.lb_cli_words.specs.Clap.{file_option_rule, flag_rule, named_rule, operand_rule};
 
 use clap::{Arg, ArgAction, Command};
@@ -14,6 +14,7 @@ pub(crate) fn commands<'a>(alloc: Global) -> Result<Command<'a>, AllocError>
 {
     let commands = with_command(program(alloc)?, verify(alloc))?;
     let commands = with_command(commands, plan(alloc))?;
+    let commands = with_command(commands, format(alloc))?;
     let commands = with_command(commands, check(alloc))?;
     let commands = with_command(commands, replay(alloc))?;
     with_command(commands, run(alloc))
@@ -94,6 +95,20 @@ fn plan<'a>(alloc: Global) -> Result<Command<'a>, AllocError>
     );
     let file = operand(alloc, "file", "FILE", "File that holds the sheet's text");
     with_arguments(plan, table, file)
+}
+
+fn format<'a>(alloc: Global) -> Result<Command<'a>, AllocError>
+    ensures app { IfOk result (λ c. app_of c ≡ format_app) }
+    ensures local { IfOk result (λ c. (fields_of c).has_globals ≡ false) }
+{
+    let format = command(
+        alloc,
+        "format",
+        "Print the one text of the sheet that a text with comments, and lines in any order, means",
+        "Prints the sheet's text with status 0, or the fault of the text, as `40 BadLine 3`, with status 1.",
+    );
+    let file = operand(alloc, "file", "FILE", "File that holds the text");
+    format.arg(file)
 }
 
 fn check<'a>(alloc: Global) -> Result<Command<'a>, AllocError>

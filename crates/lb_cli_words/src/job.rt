@@ -18,6 +18,10 @@ pub enum Job<'a> {
     PlanTable {
         file: &'a str,
     },
+    /// `format <file>`: print the sheet that the lenient text in the file means.
+    Format {
+        file: &'a str,
+    },
     /// `check -f <file>`: check the configuration in the file, up to its first fault.
     Check {
         file: &'a str,

@@ -3,7 +3,7 @@ ghost use Rattle.std.specs.Prelude.{◌≡◌, ◌∷◌, [], IfSome, IsSome, op
 ghost use Rattle.lb_cli_words.specs.Given.{given_of};
 ghost use Rattle.lb_cli_words.specs.Words.{asks_help_with, files_with, in_turn, texts};
 ghost use Rattle.lb_cli_words.specs.Table.{all_and_file, asks_help, asks_help_behind, check_asks_help, reader_of, row_behind, row_in, row_of};
-ghost use Rattle.lb_cli_words.specs.Table.{check_row, plan_row, replay_row, run_row, verify_row, version_row};
+ghost use Rattle.lb_cli_words.specs.Table.{check_row, format_row, plan_row, replay_row, run_row, verify_row, version_row};
 ghost use Rattle.lb_cli_words.specs.declared.own_option.OwnOption.TheVariants.{All, File};
 
 use crate::Job;
@@ -27,6 +27,7 @@ fn job_behind<'a>(command: &str, words: &'a [&'a str]) -> Option<Job<'a>>
     match command {
         "verify" => verify(words),
         "plan" => plan(words),
+        "format" => format(words),
         "check" => check(words),
         "replay" => replay(words),
         "run" => run(words),
@@ -54,6 +55,13 @@ fn plan<'a>(words: &'a [&'a str]) -> Option<Job<'a>>
     }
     let (_, file) = OwnOption::Table.files_with(words)?;
     Some(Job::PlanTable { file })
+}
+
+fn format<'a>(words: &'a [&'a str]) -> Option<Job<'a>>
+    ensures { option_map row_of result ≡ format_row (texts words.now) }
+{
+    let file = one_operand(words)?;
+    Some(Job::Format { file })
 }
 
 fn check<'a>(words: &'a [&'a str]) -> Option<Job<'a>>
@@ -155,6 +163,7 @@ fn asks_help_behind(command: &str, words: &[&str]) -> bool
     match command {
         "verify" => asks_help_within(1, words) || OwnOption::Sheet.asks_help(words),
         "plan" => asks_help_within(1, words) || OwnOption::Table.asks_help(words),
+        "format" => asks_help_within(1, words),
         "check" => check_asks_help(words),
         "replay" => asks_help_within(2, words),
         "run" => asks_help_within(0, RunOptions::read(words).rest),

@@ -46,6 +46,7 @@ fn plain_request(words: &[&str]) -> &'static [&'static str]
     match words {
         [_, "verify", ..] => &["stickylb", "verify", "--help"],
         [_, "plan", ..] => &["stickylb", "plan", "--help"],
+        [_, "format", ..] => &["stickylb", "format", "--help"],
         [_, "replay", ..] => &["stickylb", "replay", "--help"],
         [_, "check", ..] => &["stickylb", "check", "--help"],
         [_, "run", ..] => &["stickylb", "run", "--help"],

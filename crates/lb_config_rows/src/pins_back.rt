@@ -4,7 +4,7 @@ use lb_config::{BackendConfig, read_config};
 use lb_desk_model::SetPin;
 use lb_types::{Moment, ServerId, ServerSet};
 use pin_file::{push_backend, push_pin, read_pin_file};
-use pin_file_return::{Returned, greatest_age, returned, saved};
+use pin_file_return::{Returned, greatest_age, returned, saved_pin};
 use pin_set::{Pin, PinId, PinKey, TablePin};
 use std::alloc::{AllocError, Global};
 use std::hash::RandomState;
@@ -180,11 +180,12 @@ fn lines_of(
     backend: &BackendConfig,
     rows: &[TablePin],
 ) -> Result<Vec<u8>, AllocError> {
-    let saved = saved(alloc, backend, rows, Moment::from_millis(12_000))?;
+    let now = Moment::from_millis(12_000);
     let mut text = Vec::new(alloc);
-    push_backend(&mut text, &saved.name)?;
-    for pin in saved.pins.as_slice() {
-        push_pin(&mut text, pin)?;
+    push_backend(&mut text, &backend.name())?;
+    for row in rows {
+        let pin = saved_pin(alloc, backend.servers(), row, now)?;
+        push_pin(&mut text, &pin)?;
     }
     Ok(text)
 }

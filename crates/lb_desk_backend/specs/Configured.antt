@@ -1,14 +1,14 @@
 -- The backend that the machine opens with, of a backend of the configuration: HAProxy Configuration Manual 2.8, section 4.2
 -- (`balance`, `option allbackups`, `stick-table`, `server`) and section 5.2. Addresses, checks, times, rules and the keys of pins
 -- are no part of the machine.
-use Rattle.std.specs.Prelude.{◌≡◌, ℕ, Bool, List, Option, map}
+use Rattle.std.specs.Prelude.{◌≡◌, ℕ, Bool, List, Option, Some, length, map, slice_get}
 use Rattle.std.specs.Option.{option_map}
 use Rattle.lb_config_parameters.specs.TableViews.{StickTableView}
 use Rattle.lb_config_values.specs.ServerView.{ServerView, SettingsView, settings_view}
 use Rattle.lb_config.specs.ConfigViews.{BackendView}
 use Rattle.lb_desk_model.specs.declared.backend.BackendServer.{BackendServer}
 use Rattle.lb_types.specs.declared.table_settings.TableSettings.{TableSettings}
-use Rattle.lb_desk_model.specs.Backends.{BackendParts}
+use Rattle.lb_desk_model.specs.Backends.{BackendParts, OpenedBackend}
 
 -- how many pins a table holds, after how many milliseconds without a use a pin may go, and whether a full table keeps its pins
 pub record TableParts : Type 0 where
@@ -46,3 +46,25 @@ pub record IsBackendOf (config : BackendView) (backend : BackendParts) : Type 0 
 -- a configured backend is one backend of the machine, and so has one opening state
 abbrev pub OpensAsOneBackend : Type 0
 OpensAsOneBackend = (config : BackendView) (a b : BackendParts) → IsBackendOf config a → IsBackendOf config b → a ≡ b
+
+-- ---- the backends of a configuration
+
+-- these are the backends of the machine that are configured, in their order
+pub record AreBackendsOf (configs : List BackendView) (backends : List BackendParts) : Type 0 where
+  pub count : length backends ≡ length configs
+  pub each : (place : ℕ) (backend : BackendParts) → slice_get backends place ≡ Some backend → (config : BackendView)
+      → slice_get configs place ≡ Some config → IsBackendOf config backend
+
+-- this is the backend at the place of the configuration, as its desk opened: the desk has the place as its number, and its journal has the
+-- size that is configured
+pub record OpensAt (configs : List BackendView) (place : ℕ) (opened : OpenedBackend) : Type 0 where
+  pub config : BackendView
+  pub there : slice_get configs place ≡ Some config
+  pub number : opened.number ≡ place
+  pub parts : IsBackendOf config opened.parts
+  pub journal_size : opened.journal_size ≡ config.journal
+
+-- these are all the backends of the configuration, as their desks opened, in its order
+pub record OpenInOrder (configs : List BackendView) (opened : List OpenedBackend) : Type 0 where
+  pub count : length opened ≡ length configs
+  pub each : (place : ℕ) (one : OpenedBackend) → slice_get opened place ≡ Some one → OpensAt configs place one

@@ -30,6 +30,7 @@ pub fn evacuate<R, M: Mover<R>, G: Gate<R>>(
     ensures evacuates { Evacuates tries result (M.entries mover.old) (M.entries mover.new)
         (M.planned_now mover.old) (M.planned_now mover.new) }
     ensures refusals { CountsRefusal result (M.refusals mover.old) (M.refusals mover.new) }
+    ensures backend { M.backend mover.new ≡ M.backend mover.old }
 {
     for _ in 1..tries {
         let answer = match try_once(rt, alloc, mover, gate) {
@@ -59,6 +60,7 @@ fn try_once<R, M: Mover<R>, G: Gate<R>>(
     ensures entries { AddsTry result (M.entries mover.old) (M.entries mover.new) }
     ensures planned_now { M.planned_now mover.new ≡ M.planned_now mover.old }
     ensures refusals { CountsRefusal result (M.refusals mover.old) (M.refusals mover.new) }
+    ensures backend { M.backend mover.new ≡ M.backend mover.old }
 {
     let sheet = mover.snapshot(rt)?;
     let plan = plan(alloc, &*sheet)?.into_plan();

@@ -1,4 +1,5 @@
 ghost use Rattle.std.specs.Prelude.{◌≡◌, ◌++◌, []};
+ghost use Rattle.lb_desk_model.specs.Backends.{no_backend, opened_backend};
 ghost use Rattle.lb_desk_ports.specs.Movers.{snapshot_entries, installing_entries, PlansNow, IsPlanFor};
 
 use crate::log::Log;
@@ -136,6 +137,8 @@ impl<'a> ScriptedMover<'a> {
 }
 
 impl<R> Mover<R> for ScriptedMover<'_> {
+    ghost backend = { λ mover. opened_backend 0 no_backend 0 };
+
     ghost entries = { λ mover. mover.log.entries.items };
 
     ghost refusals = { λ mover. mover.log.refusals };

@@ -10,7 +10,7 @@ use Rattle.lb_desk_model.specs.Seen.{Seen}
 use Rattle.lb_desk_shared.specs.declared.journal_copy.JournalCopy.{JournalCopy}
 use Rattle.lb_desk_shared.specs.Calls.{entries_of}
 use Rattle.lb_desk_shared.specs.Desks.{AtAPoint, IsCopyOf}
-use Rattle.lb_desk_steer.specs.Steering.{AreIn, IsJournalAfter, Moment}
+use Rattle.lb_desk_steer.specs.Steering.{AreIn, Moment}
 use Rattle.lb_desk_tail.specs.Tail.{IsTailOf, TailView}
 use Rattle.lb_desk_tie.specs.Receipts.{Each, StandsIn, rises_from}
 
@@ -58,7 +58,8 @@ pins_after parts receipts pins point =
 
 pub journal_after : (parts : BackendParts) (size : ℕ) (receipts : List (ℕ × Entry)) (copy : JournalCopy)
     → AtAPoint parts receipts (λ desk. IsCopyOf size desk.journal copy)
-    → IsJournalAfter (record { parts = parts; journal_size = size }) (entries_of receipts) copy.first copy.entries.items
+    → (at : Moment parts (entries_of receipts))
+    × IsTailOf at.history (record { capacity = size; first = copy.first; entries = copy.entries.items })
 journal_after parts size receipts copy point =
     let copied = point.2 in
     let capacity : point.0.journal.capacity ≡ size = copied.capacity in

@@ -1,3 +1,5 @@
+ghost use Rattle.std.specs.Prelude.{◌≡◌};
+ghost use Rattle.lb_desk_model.specs.Backends.{opened_backend};
 ghost use Rattle.lb_desk_ports.specs.Movers.{IsPlanned, installing_entries, snapshot_entries};
 ghost use Rattle.lb_desk_seat.specs.Seats.{Adds, entries_at};
 
@@ -13,7 +15,8 @@ use std::sync::Wait;
 
 impl<S: BuildHasher, B: Naming> Seat<'_, S, B> {
     fn take_sheet<R: Wait>(&mut self, rt: &R) -> Result<Shared<Sheet>, Refused>
-        ensures { Adds self.old self.new (snapshot_entries result) }
+        ensures adds { Adds self.old self.new (snapshot_entries result) }
+        ensures keeper { self.new.pass.keeper ≡ self.old.pass.keeper }
     {
         let Reply::Sheet(sheet) = self.tell(rt, Event::Snapshot)? else {
             unreachable!();
@@ -24,7 +27,8 @@ impl<S: BuildHasher, B: Naming> Seat<'_, S, B> {
     /// Takes a plan for a sheet that this seat was given to the desk, which therefore never refuses it as Bad.
     fn hand_in<R: Wait>(&mut self, rt: &R, plan: Plan) -> Result<Installing, Refused>
         requires planned { IsPlanned (entries_at self.old) plan }
-        ensures { Adds self.old self.new (installing_entries plan result) }
+        ensures adds { Adds self.old self.new (installing_entries plan result) }
+        ensures keeper { self.new.pass.keeper ≡ self.old.pass.keeper }
     {
         let plan = Shared::new(self.alloc, plan)?;
         let reply = self.tell(rt, Event::Install(plan))?;
@@ -33,6 +37,8 @@ impl<S: BuildHasher, B: Naming> Seat<'_, S, B> {
 }
 
 impl<R: Wait, S: BuildHasher, B: Naming> Mover<R> for Seat<'_, S, B> {
+    ghost backend = { λ seat. opened_backend seat.pass.keeper (B.opening seat.pass.keeper) (B.journal_size seat.pass.keeper) };
+
     ghost entries = { λ seat. entries_at seat };
 
     ghost refusals = { λ seat. seat.refusals };

@@ -37,8 +37,6 @@ impl<S: BuildHasher, B: Naming> Seat<'_, S, B> {
 }
 
 impl<R: Wait, S: BuildHasher, B: Naming> Steer<R> for Seat<'_, S, B> {
-    ghost backend = { λ seat. record { parts = B.opening seat.pass.keeper; journal_size = B.journal_size seat.pass.keeper } };
-
     fn command(&mut self, rt: &R, change: Change) -> Result<Reply, Refused> {
         let answer = self.tell(rt, Event::Command(change));
         self.count(&answer);

@@ -1,16 +1,11 @@
 -- The desk of a backend as many threads use it. Its history is the list of all entries so far. Our own words.
-use Rattle.std.specs.Prelude.{◌≡◌, ℕ, true, false, None, List, []}
-use Rattle.lb_types.specs.declared.balance.Balance.TheVariants.{RoundRobin}
+use Rattle.std.specs.Prelude.{◌≡◌, ℕ, true, List}
 use Rattle.lb_desk_model.specs.declared.entry.Entry.{Entry}
 use Rattle.lb_desk_model.specs.Backends.{BackendParts}
 use Rattle.lb_desk_shared.specs.declared.journal_copy.JournalCopy.{JournalCopy}
 use Rattle.lb_desk_step.specs.Desk.{DeskView, StandsAt}
 use Rattle.lb_desk_tail.specs.Tail.{TailView}
 use Rattle.lb_desk_tie.specs.Receipts.{Each, KeeperView, StandsIn, rises}
-
--- a backend with no server
-abbrev pub no_backend : BackendParts
-no_backend = record { balance = RoundRobin; all_backups = false; table = None; servers = [] }
 
 -- what lies under the lock: a desk, and the keeper of its receipts
 pub record TiedView : Type 0 where

@@ -13,7 +13,7 @@ pub trait Naming: Tables {
 }
 
 impl Naming for Brand {
-    ghost use Rattle.lb_desk_shared.specs.Desks.{no_backend};
+    ghost use Rattle.lb_desk_model.specs.Backends.{no_backend};
 
     ghost opening = { λ _. no_backend };
 

@@ -7,19 +7,13 @@ use Rattle.lb_desk_model.specs.declared.entry.Entry.{Entry}
 use Rattle.lb_desk_model.specs.declared.event.Event.{Event}
 use Rattle.lb_desk_model.specs.declared.event.Event.TheVariants.{Command}
 use Rattle.lb_desk_model.specs.declared.reply.Reply.{Reply}
-use Rattle.lb_desk_model.specs.Backends.{BackendParts}
+use Rattle.lb_desk_model.specs.Backends.{BackendParts, OpenedBackend}
 use Rattle.lb_desk_model.specs.Histories.{History}
 use Rattle.lb_desk_model.specs.States.{State, opening}
 use Rattle.lb_desk_ports.specs.declared.refused.Refused.{Refused}
 use Rattle.lb_desk_ports.specs.Calls.{entry}
 use Rattle.lb_desk_ports.specs.Ports.{IsExpiry}
 use Rattle.lb_desk_tail.specs.Tail.{IsTailOf}
-
--- a backend as it opened
-pub record OpenedBackend : Type 0 where
-  pub parts : BackendParts
-  -- how many entries its journal keeps at most
-  pub journal_size : ℕ
 
 -- the entries that commanding the change adds
 abbrev pub commanding_entries : Change → Result Reply Refused → List Entry

@@ -1,7 +1,7 @@
 ghost use Rattle.std.specs.Prelude.{◌≡◌, ◌++◌, IfOk};
 ghost use Rattle.lb_desk_model.specs.declared.event.Event.TheVariants.{Set, Clear};
 ghost use Rattle.lb_desk_ports.specs.Calls.{after_call};
-ghost use Rattle.lb_desk_steer.specs.Steering.{AddsAt, ArePinsAfter, IsJournalAfter, OpenedBackend, commanding_entries};
+ghost use Rattle.lb_desk_steer.specs.Steering.{AddsAt, ArePinsAfter, IsJournalAfter, commanding_entries};
 
 use crate::JournalCopy;
 use lb_desk_model::{Reply, SetPin};
@@ -14,16 +14,13 @@ use std::alloc::{AllocError, Global};
 /// A backend, as a caller that carries out an operator's commands sees it. A call that is refused when out of memory or for wear
 /// makes no event, except for the first of the two of `set_pin` and of `clear_pin`.
 pub trait Steer<R>: Mover<R> {
-    /// The backend, as it opened.
-    ghost backend: { Self → OpenedBackend };
-
     /// Makes the change to a server, and answers `Reply::Done`. Or it changes nothing and answers `Reply::Refused`: 10, there is no
     /// such server; 12, its health is set and it isn't checked; 11, the number is out of range.
     fn command(&mut self, rt: &R, change: Change) -> Result<Reply, Refused>
         ensures entries { Self.entries self.new ≡ Self.entries self.old ++ commanding_entries change result }
         ensures refusals { Self.refusals self.new ≡ after_call result (Self.refusals self.old) }
         ensures planned_now { Self.planned_now self.new ≡ Self.planned_now self.old }
-        ensures backend { backend self.new ≡ backend self.old };
+        ensures backend { Self.backend self.new ≡ Self.backend self.old };
 
     /// Has a pin stand at a server: first pins go that weren't used for long at the pin's moment, and then the pin is set. It answers
     /// `Reply::Pinned`; `Reply::NoTable` where the backend has no table; or `Reply::Refused`: 10, there is no such server; 60, the table
@@ -32,7 +29,7 @@ pub trait Steer<R>: Mover<R> {
         ensures entries { AddsAt pin.moment (Set pin) (Self.entries self.old) (Self.entries self.new) result }
         ensures refusals { Self.refusals self.new ≡ after_call result (Self.refusals self.old) }
         ensures planned_now { Self.planned_now self.new ≡ Self.planned_now self.old }
-        ensures backend { backend self.new ≡ backend self.old };
+        ensures backend { Self.backend self.new ≡ Self.backend self.old };
 
     /// Has the pin of this name go: first pins go that weren't used for long at the moment, and then this one. It answers
     /// `Reply::Cleared`, or `Reply::NoPin` where there is none of that name.
@@ -40,7 +37,7 @@ pub trait Steer<R>: Mover<R> {
         ensures entries { AddsAt moment (Clear name) (Self.entries self.old) (Self.entries self.new) result }
         ensures refusals { Self.refusals self.new ≡ after_call result (Self.refusals self.old) }
         ensures planned_now { Self.planned_now self.new ≡ Self.planned_now self.old }
-        ensures backend { backend self.new ≡ backend self.old };
+        ensures backend { Self.backend self.new ≡ Self.backend self.old };
 
     /// Copies of the table's pins as they are now, after all events of this `Steer`, in order of last use, the one that wasn't used for
     /// longest first; none if the backend has no table. It is no event, and no use of any pin.
@@ -48,11 +45,11 @@ pub trait Steer<R>: Mover<R> {
     /// It costs one pass through the pins while no event is taken, one walk over them after that, and a copy of each key in either.
     /// Refused only when out of memory.
     fn rows(&mut self, rt: &R, alloc: Global) -> Result<Vec<TablePin>, AllocError>
-        ensures pins { IfOk result (λ pins. ArePinsAfter (backend self.old) (Self.entries self.old) pins.items) }
+        ensures pins { IfOk result (λ pins. ArePinsAfter (Self.backend self.old) (Self.entries self.old) pins.items) }
         ensures entries { Self.entries self.new ≡ Self.entries self.old }
         ensures refusals { Self.refusals self.new ≡ Self.refusals self.old }
         ensures planned_now { Self.planned_now self.new ≡ Self.planned_now self.old }
-        ensures backend { backend self.new ≡ backend self.old };
+        ensures backend { Self.backend self.new ≡ Self.backend self.old };
 
     /// A copy of all that the backend's journal keeps now, after all events of this `Steer`. It is no event.
     ///
@@ -60,9 +57,9 @@ pub trait Steer<R>: Mover<R> {
     /// when out of memory.
     fn journal(&mut self, rt: &R, alloc: Global) -> Result<JournalCopy, AllocError>
         ensures journal { IfOk result
-            (λ copy. IsJournalAfter (backend self.old) (Self.entries self.old) copy.first copy.entries.items) }
+            (λ copy. IsJournalAfter (Self.backend self.old) (Self.entries self.old) copy.first copy.entries.items) }
         ensures entries { Self.entries self.new ≡ Self.entries self.old }
         ensures refusals { Self.refusals self.new ≡ Self.refusals self.old }
         ensures planned_now { Self.planned_now self.new ≡ Self.planned_now self.old }
-        ensures backend { backend self.new ≡ backend self.old };
+        ensures backend { Self.backend self.new ≡ Self.backend self.old };
 }

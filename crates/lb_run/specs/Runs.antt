@@ -4,7 +4,7 @@ use Rattle.std.specs.Io.KnownBytes.{Appends}
 use Rattle.lb_config.specs.ConfigViews.{BackendView}
 use Rattle.lb_desk_backend.specs.Configured.{IsBackendOf}
 use Rattle.lb_desk_model.specs.declared.entry.Entry.{Entry}
-use Rattle.lb_desk_model.specs.Backends.{BackendParts}
+use Rattle.lb_desk_model.specs.Backends.{BackendParts, OpenedBackend, opened_backend}
 use Rattle.lb_desk_shared.specs.Closing.{Closes}
 use Rattle.lb_desk_shared.specs.declared.closing.Closing.{Closing}
 use Rattle.lb_desk_tie.specs.Receipts.{PassView}
@@ -29,6 +29,10 @@ AllClosed (config ∷ configs) text = (line others : List ℕ) × ClosedAs confi
 -- all of them were closed, and these lines went out
 abbrev pub EndsClosed : List BackendView → Option (List ℕ) → Option (List ℕ) → Type 0
 EndsClosed configs old new = (text : List ℕ) × AllClosed configs text × Appends old new text
+
+-- the desk of this number, as it opened
+abbrev pub opened_as : (ℕ → BackendParts) → (ℕ → ℕ) → ℕ → OpenedBackend
+opened_as opening sizes desk = opened_backend desk (opening desk) (sizes desk)
 
 -- the desk opened as the backend that is configured, with a journal of the size that is configured
 abbrev pub IsOpened : (ℕ → BackendParts) → (ℕ → ℕ) → BackendView → ℕ → Type 0

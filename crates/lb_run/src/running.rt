@@ -1,7 +1,7 @@
-ghost use Rattle.std.specs.Prelude.{◌≡◌, ℕ, length, OnOk};
-ghost use Rattle.lb_run.specs.Runs.{EndsClosed};
+ghost use Rattle.std.specs.Prelude.{map, OnOk};
+ghost use Rattle.lb_run_floor.specs.Places.{AreAt};
+ghost use Rattle.lb_run.specs.Runs.{EndsClosed, opened_as};
 ghost use Rattle.lb_run_desks.specs.NewDesks.{AreNamed, Open};
-ghost use Rattle.lb_run_floor.specs.Seating.{StandInOrder};
 
 use crate::closing::close_all;
 use crate::seating::RunDesks;
@@ -137,8 +137,7 @@ fn serve<R: Host + Files + TextFiles, B: Naming + Send + Sync, G: SharedGate<R>>
     doors: Doors,
     gate: G,
 ) -> Result<(), RunFault>
-    requires count { length desks.now ≡ length config.now.backends }
-    requires order { StandInOrder (λ (number : ℕ). number) desks.now }
+    requires places { AreAt config.now.backends (map (opened_as B.opening B.journal_size) desks.now) }
 {
     let desks = RunDesks {
         alloc,

@@ -1,7 +1,7 @@
 //! The desks that run, as threads take seats at them.
-ghost use Rattle.std.specs.Prelude.{◌≡◌, ◌≤◌, ℕ, length, IfOk, IfErr, OnErr};
+ghost use Rattle.std.specs.Prelude.{◌≡◌, ◌≤◌, Some, length, map, slice_get, IfOk, IfErr, OnErr};
 ghost use Rattle.lb_desk_seat.specs.Seats.{SeatView};
-ghost use Rattle.lb_run_floor.specs.Seating.{StandInOrder};
+ghost use Rattle.lb_run.specs.Runs.{opened_as};
 
 use lb_desk_ports::Refused;
 use lb_desk_seat::Seat;
@@ -22,8 +22,6 @@ pub(crate) struct RunDesks<'a, B: Naming> {
     /// In the order of the backends.
     pub(crate) desks: &'a [SharedDesk<RandomState, B>],
     pub(crate) passes: &'a PassBox<B>,
-    /// Each has its place as its number.
-    pub(crate) ghost in_order: { StandInOrder (λ (number : ℕ). number) desks.now },
 }
 
 impl<'a, B: Naming> RunDesks<'a, B> {
@@ -33,19 +31,19 @@ impl<'a, B: Naming> RunDesks<'a, B> {
         Seat::new(self.alloc, desk, desk.enter(rt))
     }
 
-    fn take_seat<R: Wait>(&self, rt: &R, number: usize) -> Result<RunSeat<'a, B>, Refused>
-        ensures desk { IfOk result (λ seat. seat.pass.keeper ≡ number) }
-        ensures no_desk { OnErr result (length self.now.desks.now ≤ number) }
+    fn take_seat<R: Wait>(&self, rt: &R, place: usize) -> Result<RunSeat<'a, B>, Refused>
+        ensures desk { IfOk result (λ seat. slice_get self.now.desks.now place ≡ Some seat.pass.keeper) }
+        ensures no_desk { OnErr result (length self.now.desks.now ≤ place) }
     {
-        let Some(desk) = self.desks.get(number) else {
+        let Some(desk) = self.desks.get(place) else {
             return Err(Refused::Memory);
         };
         Ok(self.enter(rt, desk))
     }
 
     fn take_seats<R: Wait>(&self, rt: &R) -> Result<Vec<RunSeat<'a, B>>, Refused>
-        ensures count { IfOk result (λ seats. length seats.items ≡ length self.now.desks.now) }
-        ensures order { IfOk result (λ seats. StandInOrder (λ (seat : SeatView). seat.pass.keeper) seats.items) }
+        ensures desks { IfOk result
+            (λ seats. map (λ (seat : SeatView). seat.pass.keeper) seats.items ≡ self.now.desks.now) }
         ensures memory { IfErr result (λ refused. refused ≡ Refused.Memory) }
     {
         let mut seats = Vec::with_capacity(self.alloc, self.desks.len())?;
@@ -57,16 +55,14 @@ impl<'a, B: Naming> RunDesks<'a, B> {
 }
 
 impl<B: Naming> Desks for RunDesks<'_, B> {
-    ghost count = { λ run. length run.desks.now };
+    ghost opened = { λ run. map (opened_as B.opening B.journal_size) run.desks.now };
 }
 
 impl<'a, R: Wait, B: Naming + Send + Sync> Seating<R> for RunDesks<'a, B> {
     type Seat = RunSeat<'a, B>;
 
-    ghost desk_of = { λ seat. seat.pass.keeper };
-
-    fn seat_at(&self, rt: &R, number: usize) -> Result<RunSeat<'a, B>, Refused> {
-        self.take_seat(rt, number)
+    fn seat_at(&self, rt: &R, place: usize) -> Result<RunSeat<'a, B>, Refused> {
+        self.take_seat(rt, place)
     }
 
     fn seats(&self, rt: &R) -> Result<Vec<RunSeat<'a, B>>, Refused> {

@@ -3,8 +3,7 @@ use Rattle.std.specs.Prelude.{◌≡◌, ℕ, ◌+◌, List, [], ◌∷◌, ◌+
 use Rattle.atomic_table.specs.Seated.{TableId}
 use Rattle.lb_config.specs.ConfigViews.{BackendView}
 use Rattle.lb_desk_backend.specs.Configured.{IsBackendOf}
-use Rattle.lb_desk_model.specs.Backends.{BackendParts}
-use Rattle.lb_desk_shared.specs.Desks.{no_backend}
+use Rattle.lb_desk_model.specs.Backends.{BackendParts, no_backend}
 use Rattle.lb_desk_tie.specs.Rule.{no_table}
 use Rattle.lb_run_desks.specs.NewDeskView.{NewDeskView}
 

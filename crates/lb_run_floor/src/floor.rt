@@ -1,4 +1,4 @@
-ghost use Rattle.std.specs.Prelude.{◌≡◌, length};
+ghost use Rattle.lb_run_floor.specs.Places.{AreAt};
 
 use crate::{Desks, Host, Reports};
 use http_relay_work::Roster;
@@ -34,7 +34,7 @@ pub struct Floor<'a, D: Desks, G: Drop> {
     pub start: Instant,
     /// What workers, planners and operators' threads pass at their points.
     pub gate: G,
-    pub ghost complete: { D.count desks ≡ length config.now.backends },
+    pub ghost complete: { AreAt config.now.backends (D.opened desks) },
 }
 
 impl<'a, D: Desks, G: Drop> Floor<'a, D, G> {
@@ -46,7 +46,7 @@ impl<'a, D: Desks, G: Drop> Floor<'a, D, G> {
         start: Instant,
         gate: G,
     ) -> Result<Self, AllocError>
-        requires { D.count desks ≡ length config.now.backends }
+        requires { AreAt config.now.backends (D.opened desks) }
     {
         let roster = Roster::new(alloc, config.relays())?;
         Ok(Floor {

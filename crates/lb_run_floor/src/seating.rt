@@ -1,13 +1,13 @@
-ghost use Rattle.std.specs.Prelude.{◌≡◌, ◌≤◌, ℕ, length, IfOk, IfErr, OnErr};
-ghost use Rattle.lb_run_floor.specs.Seating.{StandInOrder};
+ghost use Rattle.std.specs.Prelude.{◌≡◌, ◌≤◌, List, Some, length, map, slice_get, IfOk, IfErr, OnErr};
+ghost use Rattle.lb_desk_model.specs.Backends.{OpenedBackend};
 
 use lb_desk_ports::{Port, Refused};
 use lb_desk_steer::Steer;
 
-/// The desks of a configuration's backends, each with its backend's place as its number.
+/// The desks of a configuration's backends.
 pub trait Desks: Drop {
-    /// How many there are.
-    ghost count: { Self → ℕ };
+    /// The backends, as their desks opened, in their order.
+    ghost opened: { Self → List OpenedBackend };
 }
 
 /// Desks at which threads take seats.
@@ -15,18 +15,14 @@ pub trait Seating<R>: Desks {
     /// A thread's place at a desk.
     type Seat: Port<R> + Steer<R> + Drop + Send;
 
-    /// The number of the desk that the seat is at.
-    ghost desk_of: { Self.Seat → ℕ };
+    /// A seat at the desk at this place. Refused only if no desk is there.
+    fn seat_at(&self, rt: &R, place: usize) -> Result<Self::Seat, Refused>
+        ensures desk { IfOk result (λ seat. slice_get (Self.opened self.now) place ≡ Some (Self.Seat.Mover.backend seat)) }
+        ensures no_desk { OnErr result (length (Self.opened self.now) ≤ place) };
 
-    /// A seat at the desk of this number. Refused only if no desk has the number.
-    fn seat_at(&self, rt: &R, number: usize) -> Result<Self::Seat, Refused>
-        ensures desk { IfOk result (λ seat. desk_of seat ≡ number) }
-        ensures no_desk { OnErr result (Self.count self.now ≤ number) };
-
-    /// A seat at each desk, in the order of their numbers. Refused only when out of memory.
+    /// A seat at each desk, in their order. Refused only when out of memory.
     fn seats(&self, rt: &R) -> Result<Vec<Self::Seat>, Refused>
-        ensures count { IfOk result (λ seats. length seats.items ≡ Self.count self.now) }
-        ensures order { IfOk result (λ seats. StandInOrder desk_of seats.items) }
+        ensures desks { IfOk result (λ seats. map Self.Seat.Mover.backend seats.items ≡ Self.opened self.now) }
         ensures memory { IfErr result (λ refused. refused ≡ Refused.Memory) };
 
     /// Takes a seat that its thread leaves.

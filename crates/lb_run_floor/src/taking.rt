@@ -1,7 +1,7 @@
 //! Taking seats, and leaving them.
-ghost use Rattle.std.specs.Prelude.{◌≡◌, ◌≤◌, length, slice_get, IfOk, IfErr, OnErr};
+ghost use Rattle.std.specs.Prelude.{◌≡◌, ◌≤◌, length, map, slice_get, IfOk, IfErr, OnErr};
 ghost use Rattle.std.specs.Option.{option_copied};
-ghost use Rattle.lb_run_floor.specs.Seating.{StandInOrder};
+ghost use Rattle.lb_desk_backend.specs.Configured.{OpenInOrder, OpensAt};
 
 use crate::{Desks, Floor, Seating};
 use lb_config::BackendConfig;
@@ -13,7 +13,7 @@ pub fn seat_at<R, D: Seating<R>, G: Drop>(
     floor: &Floor<'_, D, G>,
     place: usize,
 ) -> Result<D::Seat, Refused>
-    ensures desk { IfOk result (λ seat. D.desk_of seat ≡ place) }
+    ensures desk { IfOk result (λ seat. OpensAt floor.now.config.now.backends place (D.Seat.Mover.backend seat)) }
     ensures no_backend { OnErr result (length floor.now.config.now.backends ≤ place) }
 {
     floor.desks.seat_at(rt, place)
@@ -24,8 +24,8 @@ pub fn seats<R, D: Seating<R>, G: Drop>(
     rt: &R,
     floor: &Floor<'_, D, G>,
 ) -> Result<Vec<D::Seat>, Refused>
-    ensures count { IfOk result (λ seats. length seats.items ≡ length floor.now.config.now.backends) }
-    ensures order { IfOk result (λ seats. StandInOrder D.desk_of seats.items) }
+    ensures desks { IfOk result
+        (λ seats. OpenInOrder floor.now.config.now.backends (map D.Seat.Mover.backend seats.items)) }
     ensures memory { IfErr result (λ refused. refused ≡ Refused.Memory) }
 {
     floor.desks.seats(rt)

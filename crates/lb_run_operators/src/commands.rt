@@ -1,5 +1,6 @@
-ghost use Rattle.std.specs.Prelude.{◌≡◌, length, IfOk};
-ghost use Rattle.lb_run_floor.specs.Seating.{StandInOrder};
+ghost use Rattle.std.specs.Prelude.{◌≡◌, map, IfOk};
+ghost use Rattle.command_socket_serve.specs.Consoles.{AreNamesOf};
+ghost use Rattle.lb_desk_backend.specs.Configured.{AreBackendsOf, OpenInOrder};
 
 use crate::bells::{Bells, copies_of};
 use command_socket_listen::{CommandListener, LineStream};
@@ -179,8 +180,7 @@ fn answer_to_the_end<R: Host, D: Seating<R>, G: SharedGate<R>>(
     end: &End,
     busy: Sender<()>,
 )
-    requires count { length seats.old ≡ length console.now.config.backends }
-    requires order { StandInOrder D.desk_of seats.old }
+    requires { OpenInOrder console.now.config.backends (map D.Seat.Mover.backend seats.old) }
 {
     answer_each(
         rt,
@@ -217,8 +217,8 @@ fn answer_each<R: Host, D: Seating<R>, G: SharedGate<R>>(
     end: &End,
     until: &AtomicBool,
 )
-    requires count { length seats.old ≡ length console.now.config.backends }
-    ensures count { length seats.new ≡ length seats.old }
+    requires { OpenInOrder console.now.config.backends (map D.Seat.Mover.backend seats.old) }
+    ensures { map D.Seat.Mover.backend seats.new ≡ map D.Seat.Mover.backend seats.old }
 {
     let mut room = [0; ROOM];
     for _ in rt.forever() {
@@ -237,7 +237,7 @@ fn answer_each<R: Host, D: Seating<R>, G: SharedGate<R>>(
 
 /// The backends as the machine has them, which lend answers the names of their servers.
 fn backends_of(alloc: Global, configs: &[BackendConfig]) -> Result<Vec<Backend>, AllocError>
-    ensures { IfOk result (λ backends. length backends.items ≡ length configs.now) }
+    ensures { IfOk result (λ backends. AreBackendsOf configs.now backends.items) }
 {
     let mut backends = Vec::with_capacity(alloc, configs.len())?;
     for config in configs {
@@ -252,17 +252,17 @@ fn names_of<'a>(
     configs: &[BackendConfig],
     backends: &'a [Backend],
 ) -> Result<Vec<NamedBackend<'a>>, AllocError>
-    requires { length backends.now ≡ length configs.now }
-    ensures { IfOk result (λ names. length names.items ≡ length configs.now) }
+    requires { AreBackendsOf configs.now backends.now }
+    ensures { IfOk result (λ names. AreNamesOf configs.now names.items) }
 {
     let mut names = Vec::with_capacity(alloc, configs.len())?;
     let mut place = 0;
     while place < configs.len() {
         let named = named_backend(&configs[place], backends[place].servers());
-        if names.push(named).is_err() {
-            return Err(AllocError);
+        match names.push(named) {
+            Ok(()) => place += 1,
+            Err(_) => return Err(AllocError),
         }
-        place += 1;
     }
     Ok(names)
 }

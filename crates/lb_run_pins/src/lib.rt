@@ -2,7 +2,8 @@
 //! its end.
 //!
 //! Promised: `pins_text` gives the spelling of `pin_file` for what `pin_file_return` says of each table's pins, in the order of the
-//! tables. No clause says when the file is read and written, and what the system's files do; that is tested. Start at `Kept`.
+//! tables. No clause says when the file is read and written, and what the system's files do; that is tested. Nor does one say at which
+//! `Pace` a text is made. Start at `Kept`.
 //! Private to `lb_run`.
 #![tactic(auto)]
 
@@ -10,6 +11,7 @@ mod fault;
 mod files;
 mod kept;
 mod moments;
+mod pace;
 mod returning;
 mod saving;
 mod tables;
@@ -20,6 +22,7 @@ pub use fault::{PinsFault, Unwritten};
 pub use files::read_pins;
 pub use kept::{Kept, PinsPlace};
 pub use moments::set_back;
+pub use pace::Pace;
 pub use returning::{greatest_age_of, return_kept};
 pub use saving::{save, start_saving};
 pub use tables::{Table, pins_text};

@@ -1,5 +1,6 @@
 //! Pins that come back to their desks.
 ghost use Rattle.std.specs.Prelude.{◌≡◌, Some, IfOk, slice_get};
+ghost use Rattle.lb_desk_backend.specs.Configured.{OpensAt};
 ghost use Rattle.lb_run_pins.specs.Lines.{kept_line};
 ghost use Rattle.lb_run_pins.specs.Returning.{AreReturned};
 
@@ -105,7 +106,7 @@ fn return_seated<R: Host, D: Seating<R>, G: Drop>(
     seat: &mut D::Seat,
 ) -> Result<Vec<u8>, Refused>
     requires backend { slice_get floor.now.config.now.backends place ≡ Some backend.now }
-    requires seat { D.desk_of seat.old ≡ place }
+    requires seat { OpensAt floor.now.config.now.backends place (D.Seat.Mover.backend seat.old) }
     ensures { IfOk result (λ line. AreReturned backend.now back.now.file.now back.now.moment
         (D.Seat.Port.entries seat.old) (D.Seat.Port.entries seat.new)) }
 {

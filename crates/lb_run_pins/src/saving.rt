@@ -1,7 +1,7 @@
 //! Writing the pins to their file, while the balancer runs and at its end.
 use crate::moments::now_on;
 use crate::tables::{Table, mark_of, pins_text};
-use crate::{PinsPlace, TextFiles, Unwritten};
+use crate::{Pace, PinsPlace, TextFiles, Unwritten};
 use crossbeam_channel::{Receiver, RecvTimeoutError, Sender, bounded};
 use lb_desk_steer::Steer;
 use lb_run_floor::{Desks, Floor, Host, Seating, SharedGate, leave_all, seats};
@@ -9,7 +9,8 @@ use std::alloc::{AllocError, Global};
 use std::thread::Scope;
 use std::time::Duration;
 
-/// Starts the thread that writes the pins every so often, unless that is never. It ends once what is returned is let go.
+/// Starts the thread that writes the pins every so often, unless that is never. It ends once what is returned is let go. A text that it has
+/// begun by then is made and written first, without further rests.
 pub fn start_saving<'s, E, R: Host + TextFiles, D: Seating<R> + Send + Sync, G: SharedGate<R>>(
     rt: &'s R,
     scope: &'s Scope<'s, E>,
@@ -23,7 +24,7 @@ pub fn start_saving<'s, E, R: Host + TextFiles, D: Seating<R> + Send + Sync, G: 
     Ok(end)
 }
 
-/// Writes the pins to their file. A line on standard error says that they can't be written.
+/// Writes the pins to their file, without a rest. A line on standard error says that they can't be written.
 pub fn save<R: Host + TextFiles, D: Seating<R>, G: Drop>(
     rt: &R,
     floor: &Floor<'_, D, G>,
@@ -33,11 +34,12 @@ pub fn save<R: Host + TextFiles, D: Seating<R>, G: Drop>(
         say_unwritten(rt, floor, place);
         return;
     };
-    save_changed(rt, floor, place, &mut seats, None);
+    save_changed(rt, floor, place, &mut seats, None, Pace::AtOnce);
     leave_all(rt, floor, seats);
 }
 
-/// Writes the pins every so often, where they changed, until the balancer ends.
+/// Writes the pins every so often, where they changed, until the balancer ends. It rests on its way until the balancer is to end, since
+/// requests are served meanwhile.
 fn save_often<R: Host + TextFiles, D: Seating<R>, G: Drop>(
     rt: &R,
     floor: &Floor<'_, D, G>,
@@ -55,7 +57,14 @@ fn save_often<R: Host + TextFiles, D: Seating<R>, G: Drop>(
             Err(RecvTimeoutError::Timeout) => {}
             Ok(()) | Err(RecvTimeoutError::Disconnected) => break,
         }
-        written = save_changed(rt, floor, place, &mut seats, written);
+        written = save_changed(
+            rt,
+            floor,
+            place,
+            &mut seats,
+            written,
+            Pace::InPieces(&floor.stop),
+        );
     }
     leave_all(rt, floor, seats);
 }
@@ -67,8 +76,9 @@ fn save_changed<R: Host + TextFiles, D: Seating<R>, G: Drop>(
     place: PinsPlace<'_>,
     seats: &mut [D::Seat],
     written: Option<u64>,
+    pace: Pace<'_>,
 ) -> Option<u64> {
-    match try_save(rt, floor, place, seats, written) {
+    match try_save(rt, floor, place, seats, written, pace) {
         Ok(mark) => Some(mark),
         Err(_) => {
             say_unwritten(rt, floor, place);
@@ -84,13 +94,14 @@ fn try_save<R: Host + TextFiles, D: Seating<R>, G: Drop>(
     place: PinsPlace<'_>,
     seats: &mut [D::Seat],
     written: Option<u64>,
+    pace: Pace<'_>,
 ) -> Result<u64, Unwritten> {
     let tables = copies(rt, floor, seats)?;
     let mark = mark_of(&tables);
     if written == Some(mark) {
         return Ok(mark);
     }
-    let text = pins_text(floor.alloc, &tables, now_on(rt, floor))?;
+    let text = pins_text(rt, floor.alloc, &tables, now_on(rt, floor), pace)?;
     drop(tables);
     rt.write_text(floor.alloc, place.path, &text)?;
     Ok(mark)

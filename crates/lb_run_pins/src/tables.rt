@@ -1,14 +1,17 @@
-ghost use Rattle.std.specs.Prelude.{◌≡◌, map, IfOk};
-ghost use Rattle.pin_file.specs.Spellings.{spelling};
+ghost use Rattle.std.specs.Prelude.{◌≡◌, ◌++◌, map, IfOk, OnOk};
+ghost use Rattle.dual_cert_text.specs.Spellings.{text_of_lines};
+ghost use Rattle.pin_file.specs.Spellings.{backend_lines, pin_line, spelling};
 ghost use Rattle.lb_run_pins.specs.Saved.{pins_at};
 
+use crate::Pace;
 use lb_config::BackendConfig;
 use lb_types::Moment;
-use pin_file::{BackendPins, push_text};
-use pin_file_return::saved;
+use pin_file::{push_backend, push_first_line, push_last_line, push_pin};
+use pin_file_return::saved_pin;
 use pin_set::TablePin;
 use std::alloc::{AllocError, Global};
 use std::marker::Model;
+use std::time::Clock;
 
 /// A copy of the pins of a backend's table. Contracts see the backend and the pins.
 #[derive(Drop)]
@@ -34,11 +37,41 @@ impl<'a> Table<'a> {
         Table { backend, pins }
     }
 
-    /// What the file says of the table at this moment.
-    fn saved(&self, alloc: Global, now: Moment) -> Result<BackendPins, AllocError>
-        ensures { IfOk result (λ pins. pins ≡ pins_at now self.now) }
+    /// Puts the lines that the file of this moment has of the table at the end of the text.
+    fn push<R: Clock>(
+        &self,
+        rt: &R,
+        alloc: Global,
+        text: &mut Vec<u8>,
+        now: Moment,
+        pace: Pace<'_>,
+    ) -> Result<(), AllocError>
+        ensures { OnOk result (text.new.items
+            ≡ text.old.items ++ text_of_lines (backend_lines (pins_at now self.now))) }
     {
-        saved(alloc, self.backend, &self.pins, now)
+        push_backend(text, &self.backend.name())?;
+        self.push_pins(rt, alloc, text, now, pace)?;
+        Ok(())
+    }
+
+    /// Puts the lines of the pins at the end of the text, and rests as the pace says.
+    fn push_pins<R: Clock>(
+        &self,
+        rt: &R,
+        alloc: Global,
+        text: &mut Vec<u8>,
+        now: Moment,
+        pace: Pace<'_>,
+    ) -> Result<(), AllocError>
+        ensures { OnOk result (text.new.items
+            ≡ text.old.items ++ text_of_lines (map (λ p. pin_line p) (pins_at now self.now).pins)) }
+    {
+        for (number, row) in self.pins.iter().enumerate() {
+            let pin = saved_pin(alloc, self.backend.servers(), row, now)?;
+            push_pin(text, &pin)?;
+            pace.rest_after(rt, number);
+        }
+        Ok(())
     }
 
     /// A number that changes where a pin was used, made or moved, or went, except by a rare chance. It costs a look at each pin.
@@ -63,29 +96,24 @@ fn mixed(mark: u64, next: u64) -> u64 {
 
 /// The text of the file that has these tables' pins at this moment, in the order of the tables.
 ///
-/// It costs some walks over the pins, and the memory of two copies of them. The only error is out of memory.
-pub fn pins_text(alloc: Global, tables: &[Table<'_>], now: Moment) -> Result<Vec<u8>, AllocError>
-    ensures { IfOk result (λ text. text.items ≡ spelling (map (pins_at now) tables.now)) }
-{
-    let backends = all_saved(alloc, tables, now)?;
-    let mut text = Vec::new(alloc);
-    push_text(&mut text, &backends)?;
-    Ok(text)
-}
-
-/// What the file says of all tables at this moment.
-fn all_saved(
+/// It costs one walk over the pins, at this pace, and the memory of the text: of a pin its key, and at most some 40 bytes beside it and its
+/// servers' names. The only error is out of memory.
+pub fn pins_text<R: Clock>(
+    rt: &R,
     alloc: Global,
     tables: &[Table<'_>],
     now: Moment,
-) -> Result<Vec<BackendPins>, AllocError>
-    ensures { IfOk result (λ backends. backends.items ≡ map (pins_at now) tables.now) }
+    pace: Pace<'_>,
+) -> Result<Vec<u8>, AllocError>
+    ensures { IfOk result (λ text. text.items ≡ spelling (map (pins_at now) tables.now)) }
 {
-    let mut backends = Vec::with_capacity(alloc, tables.len())?;
+    let mut text = Vec::new(alloc);
+    push_first_line(&mut text)?;
     for table in tables {
-        backends.push(table.saved(alloc, now)?)?;
+        table.push(rt, alloc, &mut text, now, pace)?;
     }
-    Ok(backends)
+    push_last_line(&mut text)?;
+    Ok(text)
 }
 
 /// The mark of all tables.

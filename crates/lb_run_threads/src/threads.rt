@@ -1,9 +1,9 @@
 //! What each thread does, from its first seat to its last. A thread that can't begin ends the balancer.
-ghost use Rattle.std.specs.Prelude.{◌≡◌, List, Some, length, slice_get};
+ghost use Rattle.std.specs.Prelude.{◌≡◌, List, Some, map, slice_get};
 ghost use Rattle.http_relay_serve.specs.Serves.{port_seen};
 ghost use Rattle.http_relay_work.specs.Services.{Service, ServesInTurn};
 ghost use Rattle.lb_desk_planner.specs.Told.{PlansAsTold, ledger};
-ghost use Rattle.lb_run_floor.specs.Seating.{StandInOrder};
+ghost use Rattle.lb_desk_backend.specs.Configured.{OpenInOrder, OpensAt};
 
 use crate::announcer::Announcer;
 use check_workers_loop::check_until_stopped;
@@ -118,8 +118,7 @@ fn serve_seated<R: Host, D: Seating<R>, G: SharedGate<R>>(
     post: Post<'_>,
     seats: Vec<D::Seat>,
 ) -> Vec<D::Seat>
-    requires count { length seats.items ≡ length floor.now.config.now.backends }
-    requires order { StandInOrder D.desk_of seats.items }
+    requires desks { OpenInOrder floor.now.config.now.backends (map D.Seat.Mover.backend seats.items) }
     ensures served { (services : List Service) × ServesInTurn (port_seen D.Seat.Port.entries D.Seat.Port.refusals) D.Seat.Port.server_of
         floor.now.config.now seats.items result.items services }
 {
@@ -170,7 +169,7 @@ fn check_seated<R: Host, D: Seating<R>, G: Drop>(
     ends: &Receiver<()>,
 ) -> Result<(), Refused>
     requires backend { slice_get floor.now.config.now.backends place ≡ Some backend.now }
-    requires seat { D.desk_of seat.old ≡ place }
+    requires seat { OpensAt floor.now.config.now.backends place (D.Seat.Mover.backend seat.old) }
 {
     let targets = targets_of(floor.alloc, backend)?;
     let mut checks = checks_of(floor.alloc, backend)?;
@@ -218,7 +217,7 @@ fn plan_seated<R: Host, D: Seating<R>, G: SharedGate<R>>(
     seat: &mut D::Seat,
     notices: &mut Notices,
 )
-    requires seat { D.desk_of seat.old ≡ place }
+    requires seat { OpensAt floor.now.config.now.backends place (D.Seat.Mover.backend seat.old) }
     ensures { PlansAsTold floor.now.config.now.tries
         (ledger notices.old (D.Seat.Mover.entries seat.old) (D.Seat.Mover.planned_now seat.old) (D.Seat.Mover.refusals seat.old))
         (ledger notices.new (D.Seat.Mover.entries seat.new) (D.Seat.Mover.planned_now seat.new) (D.Seat.Mover.refusals seat.new)) }

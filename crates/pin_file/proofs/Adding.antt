@@ -1,5 +1,5 @@
 -- Lines that are added to a draft.
-use Rattle.std.proofs.Common.{◌≡◌, ◌≢◌, ℕ, ◌+◌, ◌-◌, ◌<◌, ◌≤◌, Bool, true, false, ◌||◌, leb, cond, inl, inr, Option, Some, None, List, [], ◌∷◌, ◌++◌, length, get_or, map, codes, Result, Ok, Err, refl, sym, ap, subst, ◌∙◌, arith, append_assoc, append-nil, length-append}
+use Rattle.std.proofs.Common.{◌≡◌, ◌≢◌, ℕ, ◌-◌, ◌<◌, ◌≤◌, Bool, true, false, ◌||◌, leb, inl, inr, Some, List, [], ◌∷◌, ◌++◌, length, get_or, codes, Ok, Err, refl, sym, ap, subst, ◌∙◌, arith, append_assoc, append-nil, length-append}
 use Rattle.std.specs.List.{All, AllPairs, flat_map, list_any}
 use Rattle.std.specs.Option.{ok_or}
 use Rattle.std.specs.Str.{bytes_eq}
@@ -13,8 +13,7 @@ use Rattle.std.proofs.lemmas.Option.{slice_get-get_or}
 use Rattle.std.proofs.Math.Seq.{get_or-append_seam}
 use Rattle.lb_types.specs.Names.{is_name}
 use Rattle.lb_types_pins.proofs.Pairs.{AllPairs-nil}
-use Rattle.dual_cert_text.specs.declared.fault.TextFault.{TextFault}
-use Rattle.dual_cert_text.specs.declared.fault.TextFault.TheVariants.{BadLine, TooLarge}
+use Rattle.dual_cert_text.specs.declared.fault.TextFault.TheVariants.{BadLine}
 use Rattle.dual_cert_text.specs.Spellings.{line_of_words}
 use Rattle.dual_cert_text.proofs.ServerTexts.{bytes_differ}
 use Rattle.dual_cert_text.proofs.Steps.{bind_ok, ok_or_ok, unless_err, if_err, either, bytes_is}
@@ -22,7 +21,7 @@ use Rattle.pin_file.specs.declared.file_pin.FilePin.{FilePin}
 use Rattle.pin_file.specs.declared.backend_pins.BackendPins.{BackendPins}
 use Rattle.pin_file.specs.Files.{IsFilePin, IsBackendPins, IsPinFile}
 use Rattle.pin_file.specs.Spellings.{pin_line, backend_line, backend_lines}
-use Rattle.pin_file.specs.Texts.{PinFileDraft, draft_of, as_list, backends_of, has_name, is_taken, no_pins, with_pin, comes_next, next_pin, pin_of, backend_of, add_backend, add_pin, add_line}
+use Rattle.pin_file.specs.Texts.{PinFileDraft, draft_of, backends_of, has_name, is_taken, no_pins, with_pin, comes_next, next_pin, pin_of, backend_of, add_backend, add_pin, add_line}
 use Rattle.pin_file.proofs.Lines.{words_of, pin_found, backend_found}
 
 -- ---- the last of a list

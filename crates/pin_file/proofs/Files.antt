@@ -1,14 +1,12 @@
 -- Laws of whole files: what is read is spelled so, and what is spelled so is read, whatever follows it.
-use Rattle.std.proofs.Common.{◌≡◌, ◌≢◌, ℕ, ◌+◌, ◌-◌, ◌<◌, ◌≤◌, Bool, true, false, eqb, leb, cond, inl, inr, Option, Some, None, List, [], ◌∷◌, ◌++◌, length, get_or, map, codes, Result, Ok, Err, refl, sym, ap, subst, ◌∙◌, arith, append_assoc, append-nil, length-append}
+use Rattle.std.proofs.Common.{◌≡◌, ◌≢◌, ℕ, ◌+◌, ◌-◌, ◌<◌, ◌≤◌, true, false, eqb, leb, cond, inl, inr, Some, None, List, [], ◌∷◌, ◌++◌, length, get_or, map, codes, Result, Ok, Err, refl, sym, ap, subst, ◌∙◌, arith, append_assoc, append-nil, length-append}
 use Rattle.std.specs.List.{All, AllPairs, flat_map, list_any, join_with_byte}
 use Rattle.std.specs.Result.{IfOk}
 use Rattle.std.specs.Str.{bytes_eq}
 use Rattle.std.proofs.lemmas.Bool.Decides.{nat_tests}
-use Rattle.std.proofs.lemmas.List.{get_or_append_left}
 use Rattle.std.proofs.lemmas.List.Elements.{All-nil, All-cons, All-head, All-tail, All-append}
 use Rattle.std.proofs.lemmas.List.Folds.{list_any_none}
 use Rattle.std.proofs.lemmas.Option.{slice_get-get_or}
-use Rattle.std.proofs.Math.Seq.{get_or-append_seam}
 use Rattle.lb_types_pins.proofs.Pairs.{AllPairs-nil}
 use Rattle.lb_types_text.specs.Parts.{parts}
 use Rattle.lb_types_text.proofs.Cuts.{some_part}
@@ -26,8 +24,8 @@ use Rattle.dual_cert_text.proofs.WholeTexts.{no_mark}
 use Rattle.pin_file.specs.declared.file_pin.FilePin.{FilePin}
 use Rattle.pin_file.specs.declared.backend_pins.BackendPins.{BackendPins}
 use Rattle.pin_file.specs.Files.{IsFilePin, IsBackendPins, IsPinFile}
-use Rattle.pin_file.specs.Spellings.{pin_line, backend_line, backend_lines, spelling}
-use Rattle.pin_file.specs.Texts.{PinFileDraft, draft_of, backends_of, has_name, is_taken, no_pins, with_pin, comes_next, add_backend, add_pin, add_line, lines_at, draft_at, file_of_text}
+use Rattle.pin_file.specs.Spellings.{pin_line, backend_lines, spelling}
+use Rattle.pin_file.specs.Texts.{PinFileDraft, draft_of, backends_of, has_name, no_pins, comes_next, add_backend, add_pin, add_line, lines_at, draft_at, file_of_text}
 use Rattle.pin_file.proofs.Lines.{words_of, pin_again, pin_line_apart, pin_line_free, pin_line_goes_on, backend_again, backend_line_apart, backend_line_free, backend_line_goes_on}
 use Rattle.pin_file.proofs.Adding.{all_last, pairs_last, draft_lines, line_added}
 

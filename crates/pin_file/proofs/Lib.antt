@@ -1,7 +1,7 @@
 mod Escapes
 mod Words
 mod Lines
-mod Pushes
+pub mod Pushes
 mod ReadPins
 mod Adding
 mod Bodies

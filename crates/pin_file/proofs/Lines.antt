@@ -1,5 +1,5 @@
 -- Lines of pins and of backends, read and spelled.
-use Rattle.std.proofs.Common.{◌≡◌, ℕ, ◌-◌, ◌^◌, ◌<◌, ◌≤◌, true, false, Some, List, [], ◌∷◌, codes, refl, sym, ap, ◌∙◌, arith}
+use Rattle.std.proofs.Common.{◌≡◌, ℕ, ◌<◌, true, false, Some, List, [], ◌∷◌, codes, refl, arith}
 use Rattle.std.specs.Fmt.{decimal}
 use Rattle.std.specs.List.{All}
 use Rattle.std.specs.Str.{bytes_eq}
@@ -8,7 +8,6 @@ use Rattle.lb_types.specs.Names.{is_name, is_name_byte}
 use Rattle.lb_types_text.specs.Parts.{parts}
 use Rattle.lb_types_text.proofs.Joins.{HasNo, parts_join, free_join}
 use Rattle.pin_file.specs.KeyWords.{text_word}
-use Rattle.dual_cert_text.specs.Spellings.{line_of_words}
 use Rattle.dual_cert_text.proofs.ServerTexts.{name_free, above_mark, digits_free}
 use Rattle.dual_cert_text.proofs.Steps.{bind_some, if_none}
 use Rattle.dual_cert_text.proofs.WholeTexts.{gap_is_no_end}

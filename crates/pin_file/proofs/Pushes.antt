@@ -1,7 +1,7 @@
 -- Texts that grow line by line, and word by word.
-use Rattle.std.proofs.Common.{◌≡◌, ℕ, ◌+◌, ◌<◌, List, [], ◌∷◌, ◌++◌, length, take, get_or, map, codes, refl, sym, ap, ◌∙◌, arith, append_assoc, append-nil}
+use Rattle.std.proofs.Common.{◌≡◌, ℕ, ◌+◌, ◌<◌, List, [], ◌∷◌, ◌++◌, length, take, get_or, map, codes, refl, sym, ap, ◌∙◌, append_assoc, append-nil}
 use Rattle.std.specs.List.{flat_map, join_with_byte}
-use Rattle.std.proofs.lemmas.List.{map_more, take_more, map_push}
+use Rattle.std.proofs.lemmas.List.{map_more, take_more}
 use Rattle.std.proofs.lemmas.List.Concat.{flat_map-append}
 use Rattle.dual_cert_text.specs.Spellings.{line_of_words, text_of_lines}
 use Rattle.pin_file.specs.declared.backend_pins.BackendPins.{BackendPins}
@@ -43,14 +43,18 @@ backend_text : (b : BackendPins) → text_of_lines (backend_lines b) ≡ (backen
 unfolding backend_lines
 backend_text b = text_cons (backend_line b.name) (map (λ p. pin_line p) b.pins) ∙ sym (append_assoc (backend_line b.name) (10 ∷ []) (text_of_lines (map (λ p. pin_line p) b.pins)))
 
--- a backend more behind the first ones of some backends
-pub backend_pushed : (old mid named new : List ℕ) (bs : List BackendPins) (i : ℕ) (b : BackendPins) → i < length bs → b ≡ get_or bs i b → mid ≡ old ++ text_of_lines (flat_map (λ c. backend_lines c) (take i bs)) → named ≡ (mid ++ backend_line b.name) ++ 10 ∷ [] → new ≡ named ++ text_of_lines (map (λ p. pin_line p) b.pins) → new ≡ old ++ text_of_lines (flat_map (λ c. backend_lines c) (take (i + 1) bs))
-backend_pushed old mid named new bs i b within here so_far name pins =
-    let front = flat_map (λ c. backend_lines c) (take i bs) in
-    let all : take (i + 1) bs ≡ take i bs ++ b ∷ [] = take_more bs i b within ∙ ap (λ c. take i bs ++ c ∷ []) (sym here) in
-    let lines : flat_map (λ c. backend_lines c) (take (i + 1) bs) ≡ front ++ backend_lines b = ap (flat_map (λ c. backend_lines c)) all ∙ flat_map-append (λ c. backend_lines c) (take i bs) (b ∷ []) ∙ ap (λ l. front ++ l) (append-nil (backend_lines b)) in
-    let text : text_of_lines (flat_map (λ c. backend_lines c) (take (i + 1) bs)) ≡ text_of_lines front ++ text_of_lines (backend_lines b) = ap text_of_lines lines ∙ text_append front (backend_lines b) in
-    rw (pins, name, so_far, text, backend_text b) (simp append_assoc)
+-- the lines of a backend, after a text
+pub backend_pushed : (old named new : List ℕ) (b : BackendPins) → named ≡ (old ++ backend_line b.name) ++ 10 ∷ [] → new ≡ named ++ text_of_lines (map (λ p. pin_line p) b.pins) → new ≡ old ++ text_of_lines (backend_lines b)
+backend_pushed old named new b name pins = rw (pins, name, backend_text b) (simp append_assoc)
+
+-- the lines of one thing more, after those of the first ones
+pub lines_pushed : {A : Type 0} (old mid new : List ℕ) (lines_of : A → List (List ℕ)) (xs : List A) (i : ℕ) (x : A) → i < length xs → x ≡ get_or xs i x → mid ≡ old ++ text_of_lines (flat_map lines_of (take i xs)) → new ≡ mid ++ text_of_lines (lines_of x) → new ≡ old ++ text_of_lines (flat_map lines_of (take (i + 1) xs))
+lines_pushed old mid new lines_of xs i x within here so_far more =
+    let front = flat_map lines_of (take i xs) in
+    let all : take (i + 1) xs ≡ take i xs ++ x ∷ [] = take_more xs i x within ∙ ap (λ y. take i xs ++ y ∷ []) (sym here) in
+    let lines : flat_map lines_of (take (i + 1) xs) ≡ front ++ lines_of x = ap (flat_map lines_of) all ∙ flat_map-append lines_of (take i xs) (x ∷ []) ∙ ap (λ l. front ++ l) (append-nil (lines_of x)) in
+    let text : text_of_lines (flat_map lines_of (take (i + 1) xs)) ≡ text_of_lines front ++ text_of_lines (lines_of x) = ap text_of_lines lines ∙ text_append front (lines_of x) in
+    rw (more, so_far, text) (append_assoc old (text_of_lines front) (text_of_lines (lines_of x)))
 
 pub file_pushed : (old first mid new : List ℕ) (file : List BackendPins) → first ≡ old ++ codes "stickypins 1\n" → mid ≡ first ++ text_of_lines (flat_map (λ b. backend_lines b) file) → new ≡ mid ++ codes "end\n" → new ≡ old ++ spelling file
 unfolding spelling

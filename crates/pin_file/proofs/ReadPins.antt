@@ -1,5 +1,5 @@
 -- What the reader of a pin's line promises.
-use Rattle.std.proofs.Common.{◌≡◌, ℕ, true, Result, Ok, Err, Option, Some, None, List, [], ◌∷◌, codes, refl, sym, ap, subst, ◌∙◌}
+use Rattle.std.proofs.Common.{◌≡◌, ℕ, Result, Ok, Err, Option, Some, None, List, [], ◌∷◌, codes, sym, ap, ◌∙◌}
 use Rattle.std.specs.Option.{IfSome}
 use Rattle.std.specs.Result.{IfOk}
 use Rattle.std.specs.Str.{bytes_eq}
@@ -10,7 +10,7 @@ use Rattle.dual_cert_text.proofs.Steps.{if_none, bytes_is}
 use Rattle.pin_file.specs.declared.file_pin.FilePin.{FilePin}
 use Rattle.pin_file.specs.Files.{IsFilePin}
 use Rattle.pin_file.specs.Spellings.{pin_line}
-use Rattle.pin_file.specs.Texts.{pin_in, pin_of}
+use Rattle.pin_file.specs.Texts.{pin_in}
 use Rattle.pin_file.proofs.Lines.{words_of, pin_found, pin_again, pin_line_apart}
 
 words_line : (words : List (List ℕ)) (p : FilePin) → words ≡ words_of p → line_of_words (codes "pin" ∷ words) ≡ pin_line p

@@ -1,5 +1,5 @@
 -- The words of a pin's line, read and spelled.
-use Rattle.std.proofs.Common.{◌≡◌, ◌≢◌, ℕ, ◌-◌, ◌^◌, ◌<◌, ◌≤◌, Bool, true, false, eqb, leb, ltb, cond, inl, inr, Option, Some, None, List, [], ◌∷◌, length, codes, refl, sym, ap, subst, ◌∙◌, arith}
+use Rattle.std.proofs.Common.{◌≡◌, ℕ, ◌-◌, ◌^◌, ◌<◌, ◌≤◌, true, false, eqb, leb, ltb, inl, inr, Option, Some, None, List, [], ◌∷◌, length, codes, refl, sym, ap, subst, ◌∙◌, arith}
 use Rattle.std.specs.Fmt.{decimal}
 use Rattle.std.specs.List.{All, list_all, join_with_byte}
 use Rattle.std.specs.Option.{IfSome}
@@ -13,8 +13,8 @@ use Rattle.lb_types_text.proofs.Cuts.{some_part}
 use Rattle.lb_types_text.proofs.Joins.{HasNo, join_parts, parts_join, free_join, part_alone}
 use Rattle.lb_types_text.proofs.Numerals.{numeral_again, spelled_as}
 use Rattle.dual_cert_text.specs.Words.{positive_of}
-use Rattle.dual_cert_text.proofs.ServerTexts.{name_free, name_not_dash, differ_bytes, digits_free}
-use Rattle.dual_cert_text.proofs.Steps.{and_true, bind_some, either, if_none, unless_none, bytes_is, bytes_same}
+use Rattle.dual_cert_text.proofs.ServerTexts.{name_free, name_not_dash, differ_bytes}
+use Rattle.dual_cert_text.proofs.Steps.{and_true, bind_some, either, if_none, unless_none, bytes_is}
 use Rattle.dual_cert_text.proofs.WholeTexts.{no_mark}
 use Rattle.pin_file.specs.Spellings.{wanted_word, server_word}
 use Rattle.pin_file.specs.Texts.{wanted_of, server_of, cost_of, age_of}

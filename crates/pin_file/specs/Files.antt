@@ -1,5 +1,5 @@
 -- Files of pins, as values.
-use Rattle.std.specs.Prelude.{◌≡◌, ◌≢◌, ℕ, ◌-◌, ◌^◌, ◌<◌, ◌≤◌, true, IfSome, List, length, All, AllPairs}
+use Rattle.std.specs.Prelude.{◌≡◌, ◌≢◌, ◌-◌, ◌^◌, ◌<◌, ◌≤◌, true, IfSome, List, length, All, AllPairs}
 use Rattle.std.specs.List.{list_all}
 use Rattle.lb_types.specs.declared.limits.TheConstants.{MAX_COST, MAX_PINS}
 use Rattle.lb_types.specs.Names.{is_name}

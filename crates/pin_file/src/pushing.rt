@@ -1,5 +1,5 @@
 //! Lines of a file, each put at the end of a text. The only error of each call is out of memory.
-ghost use Rattle.std.specs.Prelude.{◌≡◌, ◌<◌, [], ◌∷◌, ◌++◌, true, map, flat_map, OnOk};
+ghost use Rattle.std.specs.Prelude.{◌≡◌, ◌<◌, [], ◌∷◌, ◌++◌, true, codes, map, flat_map, OnOk};
 ghost use Rattle.std.specs.Fmt.{decimal, digit_glyph};
 ghost use Rattle.std.specs.List.{join_with_byte};
 ghost use Rattle.pin_file.specs.KeyWords.{is_plain, escaped, text_word};
@@ -17,17 +17,23 @@ use std::alloc::AllocError;
 pub fn push_file(text: &mut Vec<u8>, file: &PinFile) -> Result<(), AllocError>
     ensures { OnOk result (text.new.items ≡ text.old.items ++ spelling file.now) }
 {
-    push_text(text, file.backends())
+    push_first_line(text)?;
+    push_backends(text, file.backends())?;
+    push_last_line(text)
 }
 
-/// Puts the whole text of a file of these backends at the end. A file is read of it where a file can have these backends (`PinFile`).
-pub fn push_text(text: &mut Vec<u8>, backends: &[BackendPins]) -> Result<(), AllocError>
-    ensures { OnOk result (text.new.items ≡ text.old.items ++ spelling backends.now) }
+/// Puts the first line of a file, and its end, at the end. The lines of the backends follow.
+pub fn push_first_line(text: &mut Vec<u8>) -> Result<(), AllocError>
+    ensures { OnOk result (text.new.items ≡ text.old.items ++ codes "stickypins 1\n") }
 {
-    text.extend_from_slice(b"stickypins 1\n")?;
-    push_backends(text, backends)?;
-    text.extend_from_slice(b"end\n")?;
-    Ok(())
+    text.extend_from_slice(b"stickypins 1\n")
+}
+
+/// Puts the last line of a file, and its end, at the end.
+pub fn push_last_line(text: &mut Vec<u8>) -> Result<(), AllocError>
+    ensures { OnOk result (text.new.items ≡ text.old.items ++ codes "end\n") }
+{
+    text.extend_from_slice(b"end\n")
 }
 
 /// Puts the lines of the backends at the end.

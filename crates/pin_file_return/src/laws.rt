@@ -7,7 +7,8 @@ pub fn returned_pins_are_the_table()
     ensures { ReturnedPinsAreTheTable }
 {}
 
-/// Where the configuration is the same, what a file says of a table comes back: its pins at a server, in their order, with the same ages.
+/// Where the configuration is the same, what a file says of a table comes back: its pins at a server, in their order, with the same ages as far
+/// as the clock goes back.
 pub fn saved_pins_come_back()
     ensures { SavedPinsComeBack }
 {}

@@ -1,40 +1,20 @@
 ghost use Rattle.std.specs.Prelude.{◌≡◌, ◌++◌, None, IfOk, OnOk, filter_map, option_to_list, if◌then◌else◌};
 ghost use Rattle.std.specs.Option.{option_and_then};
 ghost use Rattle.lb_types.specs.Servers.{has, members};
-ghost use Rattle.pin_file_return.specs.Saves.{key_bytes, name_at, saved_pin, saved_pins};
+ghost use Rattle.pin_file_return.specs.Saves.{key_bytes, name_at, saved_pin};
 
-use lb_config::BackendConfig;
 use lb_config_values::ServerConfig;
 use lb_types::{MAX_SERVERS, Moment, Name, Place, ServerId, ServerSet};
-use pin_file::{BackendPins, FilePin, NameList, PinList};
+use pin_file::{FilePin, NameList};
 use pin_set::{KeyText, PinKey, TablePin};
 use std::alloc::{AllocError, Global};
 
-/// What a file says of the backend whose table has these pins at this moment.
+/// What a file says at this moment of a pin of the backend with these servers.
 ///
-/// Each pin has its key, its servers by their names, its cost, and how long before `now` it was used. A pin that is at no server has none.
-/// A file has it as it is where the pins are those of a table. It costs one walk over the pins, and a copy of each key and of each wanted
-/// server's name. The only error is out of memory.
-pub fn saved(
-    alloc: Global,
-    backend: &BackendConfig,
-    rows: &[TablePin],
-    now: Moment,
-) -> Result<BackendPins, AllocError>
-    ensures { IfOk result (λ saved. saved ≡ saved_pins backend.now rows.now now) }
-{
-    let mut pins = Vec::with_capacity(alloc, rows.len())?;
-    for row in rows {
-        pins.push(saved_pin(alloc, backend.servers(), row, now)?)?;
-    }
-    Ok(BackendPins {
-        name: backend.name(),
-        pins: PinList::new(pins),
-    })
-}
-
+/// It has the pin's key, its servers by their names, its cost, and how long before `now` it was used. A pin that is at no server has none.
+/// It costs a copy of the key and of each wanted server's name. The only error is out of memory.
 #[tactic(auto, unfolding(crate::specs::Saves::saved_pin))]
-fn saved_pin(
+pub fn saved_pin(
     alloc: Global,
     servers: &[ServerConfig],
     row: &TablePin,

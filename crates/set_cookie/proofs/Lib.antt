@@ -1,7 +1,9 @@
+pub mod Cuts
 pub mod FinalHeads
 pub mod Firsts
 pub mod Keys
 pub mod Lessons
+pub mod Names
 pub mod Rows
 pub mod Stays
 pub mod Words

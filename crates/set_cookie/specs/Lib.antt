@@ -5,6 +5,7 @@ pub mod Fields
 pub mod Laws
 pub mod Lifetimes
 pub mod Lines
+pub mod Names
 pub mod Scans
 pub mod SetCookies
 pub mod StatusLines

@@ -1,14 +1,15 @@
 ghost use Rattle.std.specs.Prelude.{◌≡◌, ◌∷◌, [], None, codes};
-ghost use Rattle.std.specs.List.{last_or, filter_map, list_all};
+ghost use Rattle.std.specs.List.{last_or, filter_map};
 ghost use Rattle.std.specs.Option.{option_copied};
 ghost use Rattle.set_cookie.specs.Answers.{answered_at};
 ghost use Rattle.set_cookie.specs.Dates.{moment};
-ghost use Rattle.set_cookie.specs.Fields.{field_value, is_field, is_field_line, is_visible, values_of};
+ghost use Rattle.set_cookie.specs.Fields.{field_value, is_field, is_field_line, values_of};
 ghost use Rattle.set_cookie.specs.Lines.{lines_of};
+ghost use Rattle.set_cookie.specs.Names.{ends_name, may_end_at, name_end};
 ghost use Rattle.set_cookie.specs.Scans.{date_after, head_of, text_after};
 ghost use Rattle.set_cookie.specs.SetCookies.{set_cookies};
 
-use crate::bytes::{after, before, has_mark};
+use crate::bytes::{after, before};
 use crate::dates::moment;
 use crate::lines::next_line;
 use crate::set_cookies::is_cookie;
@@ -17,38 +18,47 @@ use lb_acl::trimmed;
 /// The start of the year 2000, in the order of moments: what counts as the date of an answer without one.
 pub const UNDATED: u64 = (2000 * 12 * 32 + 1) * 86_400;
 
-/// Whether the line is a field line.
-#[tactic(auto, unfolding(crate::specs::Fields::is_field_line))]
+/// Whether the line is a field line. It costs one walk over the line's name.
+#[tactic(auto, using(crate::proofs::Names::ends_within, crate::proofs::Names::field_line, crate::proofs::Names::endless))]
 fn is_field_line(line: &[u8]) -> bool
     ensures { result ≡ is_field_line line.now }
 {
-    if !has_mark(b':', line) {
-        return false;
+    match name_end(line) {
+        Some(end) => end > 0 && line[end] == b':',
+        None => false,
     }
-    let name = before(b':', line);
-    if name.is_empty() {
-        return false;
-    }
-    are_visible(name)
 }
 
-fn are_visible(name: &[u8]) -> bool
-    ensures { result ≡ list_all is_visible name.now }
+/// The place of the first byte that no name has.
+fn name_end(line: &[u8]) -> Option<usize>
+    ensures { result ≡ name_end line.now }
 {
-    name.iter().all(|byte| is_visible(*byte))
+    line.iter().position(|byte| ends_name(*byte))
 }
 
-fn is_visible(byte: u8) -> bool
-    ensures { result ≡ is_visible byte }
+/// Whether no name has this byte.
+fn ends_name(byte: u8) -> bool
+    ensures { result ≡ ends_name byte }
 {
-    byte > b' ' && byte < 127
+    byte == b':' || byte <= b' ' || byte >= 127
 }
 
 /// Whether the line's field has this name, whatever the case of its letters.
+#[tactic(auto, using(crate::proofs::Names::other_len))]
 fn is_field(name: &[u8], line: &[u8]) -> bool
     ensures { result ≡ is_field name.now line.now }
 {
+    if !may_end_at(name.len(), line) {
+        return false;
+    }
     before(b':', line).eq_ignore_ascii_case(name)
+}
+
+/// Whether the line's name may have so many bytes: `:` follows them, or nothing.
+fn may_end_at(len: usize, line: &[u8]) -> bool
+    ensures { result ≡ may_end_at len line.now }
+{
+    len >= line.len() || line[len] == b':'
 }
 
 /// The value of the line's field.

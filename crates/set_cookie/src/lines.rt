@@ -1,17 +1,27 @@
-ghost use Rattle.std.specs.Prelude.{◌≡◌, ◌<◌, [], ◌∷◌, length, true, false, IfSome, IfNone};
+ghost use Rattle.std.specs.Prelude.{◌≡◌, ◌==◌, [], ◌∷◌, position, true, false, IfSome, IfNone};
 ghost use Rattle.std.specs.List.{list_any, after_first};
 ghost use Rattle.set_cookie.specs.Lines.{line_text, lines_of, is_empty};
 
-use lb_types_text::cut;
+use memchr::memchr;
 
 /// The first line that ends in these bytes, without its end, and what follows it.
-#[tactic(auto, unfolding(crate::specs::Lines::lines_of))]
+#[tactic(auto, using(crate::proofs::Cuts::no_line))]
 pub(crate) fn next_line(bytes: &[u8]) -> Option<(&[u8], &[u8])>
     ensures first { IfSome result (λ two. lines_of bytes.now ≡ two.0.now ∷ lines_of two.1.now) }
     ensures none { IfNone result (lines_of bytes.now ≡ []) }
 {
-    let (line, rest) = cut(bytes, b'\n')?;
+    let at = line_end(bytes)?;
+    let (line, _) = bytes.split_at(at);
+    let (_, rest) = bytes.split_at(at + 1);
     Some((line_text(line), rest))
+}
+
+/// The place of the first LF.
+#[tactic(auto, using(crate::proofs::Cuts::first_byte))]
+fn line_end(bytes: &[u8]) -> Option<usize>
+    ensures { result ≡ position (λ b. b == 10) bytes.now }
+{
+    memchr(b'\n', bytes)
 }
 
 /// The line without the CR before its LF.

@@ -1,7 +1,8 @@
 //! `stickylb` without all that needs a configuration: a small program for the jobs on sheets and plans, which is proved in minutes.
-//! `lb_cli_start` has the words of the command line read, and `lb_cli_verify` or `lb_cli_plans` does the job that they ask for.
+//! `lb_cli_start` has the words of the command line read, and `lb_cli_format`, `lb_cli_verify` or `lb_cli_plans` does the job that they ask for.
 #![tactic(auto)]
 
+use lb_cli_format::format_file;
 use lb_cli_plans::{plan_file, tables_file, tell_version};
 use lb_cli_start::{asked_job, command_line, texts_of};
 use lb_cli_verify::{verify_file, verify_files};
@@ -39,6 +40,7 @@ fn perform(rt: &HostRuntime, job: Job<'_>) -> Option<u8> {
         }
         Job::Plan { file } => Some(plan_file(alloc, rt, file, out, err)),
         Job::PlanTable { file } => Some(tables_file(alloc, rt, file, out, err)),
+        Job::Format { file } => Some(format_file(alloc, rt, file, out, err)),
         Job::Version => Some(tell_version(out, err)),
         Job::Check { .. }
         | Job::CheckAll { .. }

@@ -11,14 +11,14 @@ use Rattle.command_socket_serve.proofs.answers.carry_out.Goals as goal
 
 pub returns-in-Asked-clause-carries_out : goal.returns-in-Asked-clause-carries_out
 returns-in-Asked-clause-carries_out g c =
-    let seen = desk_seen g.S.Mover.entries g.S.Mover.planned_now g.S.Steer.backend in
+    let seen = desk_seen g.S.Mover.entries g.S.Mover.planned_now g.S.Mover.backend in
     let desks = c.args.desks.now in
     let place = c.in-Asked.place in
     let names = c.args.console.now.names in
     let named = c.index-names-place.result in
     let old = get_or desks place c.index-desks-place.result in
     let one : place < length c.args.console.now.config.backends = subst (NamesOneOf (length c.args.console.now.config.backends)) c.in-Asked.is c.requires.names in
-    let within : place < length names = omega (arith, one, c.names.ensures.all) in
+    let within : place < length names = omega (arith, one, c.names.ensures.all.count) in
     let among : place < length desks = omega (arith, one, c.requires.seats) in
     let read = rw c.names.ensures.exact at c.index-names-place.is in
     let there : slice_get names place ≡ Some named = slice_get_read names (length names) place named refl within read in

@@ -13,7 +13,7 @@ use Rattle.command_socket_serve.proofs.answers.carry_out_plain.Goals as goal
 
 pub returns-in-Plan-clause-carries_out : goal.returns-in-Plan-clause-carries_out
 returns-in-Plan-clause-carries_out g c =
-    let seen = desk_seen g.S.Mover.entries g.S.Mover.planned_now g.S.Steer.backend in
+    let seen = desk_seen g.S.Mover.entries g.S.Mover.planned_now g.S.Mover.backend in
     let desks = c.args.desks.now in
     let place = c.in-Plan.place in
     let old = get_or desks place c.index-desks-place-in-Plan.result in
@@ -32,14 +32,14 @@ returns-in-Plan-clause-carries_out g c =
 
 pub returns-in-Show-clause-carries_out : goal.returns-in-Show-clause-carries_out
 returns-in-Show-clause-carries_out g c =
-    let seen = desk_seen g.S.Mover.entries g.S.Mover.planned_now g.S.Steer.backend in
+    let seen = desk_seen g.S.Mover.entries g.S.Mover.planned_now g.S.Mover.backend in
     let desks = c.args.desks.now in
     let place = c.in-Show.place in
     let names = c.args.console.now.names in
     let named = c.index-names-place-in-Show.result in
     let old = get_or desks place c.index-desks-place-in-Show.result in
     let one : place < length c.args.console.now.config.backends = subst (NamesOneOfPlain (length c.args.console.now.config.backends)) c.in-Show.is c.requires.names in
-    let within : place < length names = omega (arith, one, c.names-in-Show.ensures.all) in
+    let within : place < length names = omega (arith, one, c.names-in-Show.ensures.all.count) in
     let among : place < length desks = omega (arith, one, c.requires.seats) in
     let read = rw c.names-in-Show.ensures.exact at c.index-names-place-in-Show.is in
     let there : slice_get names place ≡ Some named = slice_get_read names (length names) place named refl within read in
@@ -59,7 +59,7 @@ returns-in-Show-clause-carries_out g c =
 
 pub returns-in-Stop-clause-carries_out : goal.returns-in-Stop-clause-carries_out
 returns-in-Stop-clause-carries_out g c =
-    let seen = desk_seen g.S.Mover.entries g.S.Mover.planned_now g.S.Steer.backend in
+    let seen = desk_seen g.S.Mover.entries g.S.Mover.planned_now g.S.Mover.backend in
     let desks = c.args.desks.now in
     subst (λ (command : Resolved). Does (CarriesOutPlain seen c.args.console.now command desks desks)
     (g.T.Told.told c.args.told.now) (g.T.Told.told c.args.told.now) c.args.out.now c.args.sent c.args.out.now c.args.sent) (sym c.in-Stop.is)

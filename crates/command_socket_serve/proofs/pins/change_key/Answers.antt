@@ -6,7 +6,7 @@ use Rattle.command_socket_serve.proofs.pins.change_key.Goals as goal
 
 pub returns : goal.returns
 returns g c =
-    let seen = desk_seen g.S.Mover.entries g.S.Mover.planned_now g.S.Steer.backend in
+    let seen = desk_seen g.S.Mover.entries g.S.Mover.planned_now g.S.Mover.backend in
     let same : seen c.rows.new.self ≡ seen c.args.desk.now = rw (c.in-Ok.ensures.entries, c.in-Ok.ensures.planned_now, c.in-Ok.ensures.backend) refl in
     let filled = sym c.is_empty.ensures ∙ c.if-is_empty.false in
     let as_many : vec_len c.keep_key.new.pins ≡ length c.keep_key.new.pins.items = omega (arith, c.keep_key.new.pins.ok.0) in

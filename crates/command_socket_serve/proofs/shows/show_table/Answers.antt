@@ -8,7 +8,7 @@ use Rattle.command_socket_serve.proofs.shows.show_table.Goals as goal
 pub returns-in-Ok : goal.returns-in-Ok
 unfolding answer_text
 returns-in-Ok g c =
-    let seen = desk_seen g.S.Mover.entries g.S.Mover.planned_now g.S.Steer.backend in
+    let seen = desk_seen g.S.Mover.entries g.S.Mover.planned_now g.S.Mover.backend in
     let named = c.args.named.now in
     record {
       text = table_text named.name named.servers.now named.table c.deref.result.now;

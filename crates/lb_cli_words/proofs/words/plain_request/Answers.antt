@@ -10,6 +10,10 @@ pub returns-in-plan : goal.returns-in-plan
 unfolding clap_on_literals
 returns-in-plan c = refl
 
+pub returns-in-format : goal.returns-in-format
+unfolding clap_on_literals
+returns-in-format c = refl
+
 pub returns-in-replay : goal.returns-in-replay
 unfolding clap_on_literals
 returns-in-replay c = refl

@@ -3,7 +3,7 @@ use Rattle.lb_desk_evacuate.proofs.Trying.{none_failed, one_failed_more, done_in
 use Rattle.lb_desk_evacuate.proofs.evacuating.evacuate.Goals as goal
 
 pub loop-init : goal.loop-init
-loop-init g c = record { failed = none_failed (g.M.Mover.entries c.args.mover.now); within = omega arith; planned = refl; refusals = refl }
+loop-init g c = record { failed = none_failed (g.M.Mover.entries c.args.mover.now); within = omega arith; planned = refl; refusals = refl; backend = refl }
 
 pub returns-in-Installed-clause-evacuates : goal.returns-in-Installed-clause-evacuates
 returns-in-Installed-clause-evacuates g c =
@@ -21,4 +21,5 @@ loop-preserved g c =
       within = omega (arith, c.loop-test.true);
       planned = c.in-Ok.ensures.planned_now ∙ c.loop.invariant.planned;
       refusals = c.in-Ok.ensures.refusals ∙ c.loop.invariant.refusals;
+      backend = c.in-Ok.ensures.backend ∙ c.loop.invariant.backend;
     }

@@ -8,4 +8,5 @@ invariant-loop g l = record {
   within : l.counter ≤ 1 + (l.tries - 1);
   planned : g.M.Mover.planned_now l.mover ≡ g.M.Mover.planned_now l.fn.mover;
   refusals : g.M.Mover.refusals l.mover ≡ g.M.Mover.refusals l.fn.mover;
+  backend : g.M.Mover.backend l.mover ≡ g.M.Mover.backend l.fn.mover;
 }

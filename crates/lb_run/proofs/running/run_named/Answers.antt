@@ -1,20 +1,22 @@
-use Rattle.std.proofs.Common.{◌∙◌, ap, sym, subst, ℕ, List, length}
-use Rattle.lb_run_desks.proofs.Opening.{Open-length}
-use Rattle.lb_run_floor.specs.Seating.{StandInOrder}
-use Rattle.lb_run.specs.Runs.{AreOpened}
+use Rattle.std.proofs.Common.{◌∙◌, map, sym, subst, ℕ, List}
+use Rattle.lb_run_desks.specs.NewDesks.{numbers}
+use Rattle.lb_run_floor.specs.Places.{AreAt}
+use Rattle.lb_run_floor.proofs.InOrder.{at_places}
+use Rattle.lb_run.specs.Runs.{AreOpened, opened_as}
 use Rattle.lb_run.proofs.Closings.{all_opened}
-use Rattle.lb_run.proofs.Counting.{length-numbers}
-use Rattle.lb_run.proofs.Order.{numbered}
+use Rattle.lb_run.proofs.Order.{numbered, open_in_order}
 use Rattle.lb_run.proofs.running.run_named.Goals as goal
 
-pub serve-requires-clause-count : goal.serve-requires-clause-count
-serve-requires-clause-count g c κs within =
-    ap (λ l. length l) c.deref.ensures.value ∙ ap (λ l. length l) c.in_ok-desks.ensures ∙ length-numbers c.args.desks.items
-    ∙ Open-length c.args.config.now.backends c.args.desks.items c.requires.opened
-
-pub serve-requires-clause-order : goal.serve-requires-clause-order
-serve-requires-clause-order g c κs within =
-    subst (λ (l : List ℕ). StandInOrder (λ (number : ℕ). number) l) (sym (c.deref.ensures.value ∙ c.in_ok-desks.ensures)) (numbered c.args.desks.items)
+pub serve-requires-clause-places : goal.serve-requires-clause-places
+serve-requires-clause-places g c κs within =
+    let opening = g.B.Naming.opening in
+    let sizes = g.B.Naming.journal_size in
+    let configs = c.args.config.now.backends in
+    let news = c.args.desks.items in
+    subst (λ (l : List ℕ). AreAt configs (map (opened_as opening sizes) l)) (sym (c.deref.ensures.value ∙ c.in_ok-desks.ensures))
+    (at_places configs (map (opened_as opening sizes) (numbers news)) (open_in_order opening sizes configs (numbers news)
+    (all_opened opening sizes configs news (λ place desk at. ((c.requires.names place desk at).1, (c.requires.names place desk at).2)) c.requires.opened)
+    (numbered news)))
 
 pub close_all-requires : goal.close_all-requires
 close_all-requires g c =

@@ -1,8 +1,7 @@
-use Rattle.std.proofs.Common.{◌≡◌, ◌++◌, map, take}
+use Rattle.std.proofs.Common.{◌≡◌, ◌++◌, take}
 use Rattle.std.specs.List.{flat_map}
 use Rattle.dual_cert_text.specs.Spellings.{text_of_lines}
-use Rattle.pin_file.specs.KeyWords.{escaped}
-use Rattle.pin_file.specs.Spellings.{backend_lines, pin_line}
+use Rattle.pin_file.specs.Spellings.{backend_lines}
 use Rattle.pin_file.proofs.pushing.push_backends.Given as goal
 
 abbrev pub invariant-loop-backend : goal.invariant-loop-backend

@@ -5,8 +5,8 @@ use Rattle.lb_desk_shared.specs.Calls.{AddsStep}
 use Rattle.lb_desk_seat.proofs.Planning.{handed_in}
 use Rattle.lb_desk_seat.proofs.seat.Seat.hand_in.Goals as goal
 
-pub returns : goal.returns
-returns g c =
+pub returns-clause-adds : goal.returns-clause-adds
+returns-clause-adds g c =
     let backend = g.B.Naming.opening c.args.self.now.pass.keeper in
     let old = c.args.self.now.pass in
     let new = c.tell.new.self.pass in

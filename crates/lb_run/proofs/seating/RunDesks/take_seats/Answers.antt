@@ -1,19 +1,22 @@
-use Rattle.std.proofs.Common.{◌∙◌, ℕ, ◌+◌, List, length, refl, ap, sym, subst}
-use Rattle.std.proofs.lemmas.List.{length_push}
-use Rattle.std.proofs.lemmas.Option.{slice_get_read}
+use Rattle.std.proofs.Common.{◌≡◌, ◌∙◌, ℕ, List, [], ◌∷◌, ◌++◌, take, map, get_or, sym, ap}
+use mathlib.Core.List.{map-append}
+use Rattle.std.proofs.lemmas.List.{take_all, take_more}
 use Rattle.lb_desk_seat.specs.Seats.{SeatView}
-use Rattle.lb_run_floor.specs.Seating.{StandInOrder}
-use Rattle.lb_run.proofs.Order.{pushed}
 use Rattle.lb_run.proofs.seating.RunDesks.take_seats.Goals as goal
 
 pub loop-desk-preserved : goal.loop-desk-preserved
 loop-desk-preserved g c =
-    let there = c.args.self.now.in_order c.loop-desk.desk-index c.desk-item.result
-    (slice_get_read c.args.self.now.desks.now (length c.args.self.now.desks.now) c.loop-desk.desk-index c.desk-item.result refl
-    c.loop-desk-test.true c.desk-item.is) in (
-      ap (λ (l : List SeatView). length l) c.in_ok-push.ensures.items ∙ length_push c.loop-desk.seats.items c.enter.result
-          ∙ ap (λ (n : ℕ). n + 1) c.loop-desk.invariant.0,
-      subst (λ (l : List SeatView). StandInOrder (λ (seat : SeatView). seat.pass.keeper) l) (sym c.in_ok-push.ensures.items)
-          (pushed (λ (seat : SeatView). seat.pass.keeper) c.loop-desk.seats.items c.enter.result c.loop-desk.invariant.1
-          (c.enter.ensures ∙ there ∙ sym c.loop-desk.invariant.0)),
-    )
+    let keeper : SeatView → ℕ = λ seat. seat.pass.keeper in
+    let desks = c.args.self.now.desks.now in
+    let all = c.loop-desk.seats.items in
+    let i = c.loop-desk.desk-index in
+    let last : c.enter.result.pass.keeper ≡ get_or desks i c.desk-item.result = c.enter.ensures ∙ c.desk-item.is in
+    ap (λ (l : List SeatView). map keeper l) c.in_ok-push.ensures.items
+    ∙ map-append keeper all (c.enter.result ∷ [])
+    ∙ ap (λ (l : List ℕ). l ++ c.enter.result.pass.keeper ∷ []) c.loop-desk.invariant
+    ∙ ap (λ (n : ℕ). take i desks ++ n ∷ []) last
+    ∙ sym (take_more desks i c.desk-item.result c.loop-desk-test.true)
+
+pub returns-clause-desks : goal.returns-clause-desks
+returns-clause-desks g c =
+    c.loop-desk.invariant ∙ take_all c.loop-desk.desk-index c.args.self.now.desks.now c.loop-desk-test.false

@@ -1,0 +1,4 @@
+pub mod Blanks
+pub mod Lawful
+pub mod Lines
+pub mod Sheets

@@ -1,0 +1,5 @@
+pub mod GroupLines
+pub mod Kept
+pub mod Meanings
+pub mod Texts
+pub mod Words
