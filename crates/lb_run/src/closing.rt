@@ -7,7 +7,7 @@ use lb_config::{BackendConfig, Config};
 use lb_desk_model::Entry;
 use lb_desk_shared::{Naming, SharedDesk};
 use lb_desk_tie::Pass;
-use lb_run_desks::{ClosedDesk, close_desk, closed_line};
+use lb_run_desks::{close_desk, closed_line};
 use std::alloc::Global;
 use std::hash::RandomState;
 use std::io::Write;
@@ -44,10 +44,8 @@ fn close_one<B: Naming>(
     ensures { IfOk result (λ line. ClosedAs backend.now line.items) }
 {
     match close_desk(alloc, desk, passes)? {
-        ClosedDesk::Closed(closing) => {
-            Ok(closed_line(alloc, backend.name().as_bytes(), &closing)?)
-        }
-        ClosedDesk::Open(fault) => Err(RunFault::StillOpen(fault)),
+        Ok(closing) => Ok(closed_line(alloc, backend.name().as_bytes(), &closing)?),
+        Err(still_out) => Err(RunFault::StillOpen(still_out.fault)),
     }
 }
 

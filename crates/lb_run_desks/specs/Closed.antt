@@ -6,15 +6,12 @@ use Rattle.lb_desk_model.specs.Backends.{BackendParts}
 use Rattle.lb_desk_shared.specs.Closing.{Closes}
 use Rattle.lb_desk_shared.specs.declared.closing.Closing.{Closing}
 use Rattle.lb_desk_tie.specs.Receipts.{PassView, AreOf}
-use Rattle.lb_run_desks.specs.declared.closing.ClosedDesk.{ClosedDesk}
-use Rattle.lb_run_desks.specs.declared.closing.ClosedDesk.TheVariants.{Closed, Open}
 
--- where the desk of this number is closed, passes of its own share out the history that it stands at the end of, and of that its
--- journal has as many of the newest entries as this size allows
-abbrev pub IsClosed : BackendParts → ℕ → ℕ → ClosedDesk → Type 0
-IsClosed backend number size (Closed closing) =
+-- passes of the desk of this number share out the history that it stands at the end of, and of that its journal has as many of the newest
+-- entries as this size allows
+abbrev pub IsClosed : BackendParts → ℕ → ℕ → Closing → Type 0
+IsClosed backend number size closing =
     (passes : List (PassView Entry)) × AreOf number passes × Closes backend passes closing × (closing.journal.capacity ≡ size)
-IsClosed backend number size (Open fault) = Unit {0}
 
 abbrev pub yes_or_no : Bool → List ℕ
 yes_or_no true = codes "yes"

@@ -1,37 +1,30 @@
-ghost use Rattle.std.specs.Prelude.{◌≡◌, [], IfOk};
+ghost use Rattle.std.specs.Prelude.{◌≡◌, [], Some, vec_len, IfErr, IfOk};
+ghost use Rattle.lb_desk_shared.specs.Closing.{fault_of};
 ghost use Rattle.lb_desk_tie.specs.Receipts.{AreOf};
 ghost use Rattle.lb_run_desks.specs.Closed.{IsClosed, closed_line};
 
 use lb_desk_model::Entry;
-use lb_desk_shared::{CloseFault, Closing, Naming, SharedDesk};
+use lb_desk_shared::{Closing, Naming, SharedDesk, StillOut};
 use lb_desk_tie::Pass;
 use std::alloc::{AllocError, Global};
 use std::hash::BuildHasher;
 
-/// What is left of a desk.
-#[derive(Debug, Drop)]
-pub enum ClosedDesk {
-    /// It is closed.
-    Closed(Closing),
-    /// It can't be closed: a pass or a connection never came back.
-    Open(CloseFault),
-}
-
-/// Closes the desk with those of the passes that are its own; the others are left. The only error is out of memory.
+/// Closes the desk with those of the passes that are its own; the others are left. If it can't be closed, since a pass or a connection never
+/// came back, it hands back the desk, its own passes and why. The only other error is out of memory.
 ///
 /// It costs a look at each pass.
 pub fn close_desk<S: BuildHasher + Drop, B: Naming>(
     alloc: Global,
     desk: SharedDesk<S, B>,
     passes: &mut Vec<Pass<Entry, B>>,
-) -> Result<ClosedDesk, AllocError>
-    ensures { IfOk result (IsClosed (B.opening desk) desk (B.journal_size desk)) }
+) -> Result<Result<Closing, StillOut<S, B>>, AllocError>
+    ensures closed { IfOk result (λ end. IfOk end (IsClosed (B.opening desk) desk (B.journal_size desk))) }
+    ensures open { IfOk result (λ end. IfErr end (λ out. AreOf desk out.passes.items
+        × (out.desk.keeper.number ≡ desk
+        → fault_of out.desk (vec_len out.passes) ≡ Some out.fault))) }
 {
     let own = take_own(alloc, desk.number(), passes)?;
-    Ok(match desk.close(own) {
-        Ok(closing) => ClosedDesk::Closed(closing),
-        Err(still_out) => ClosedDesk::Open(still_out.fault),
-    })
+    Ok(desk.close(own))
 }
 
 /// Takes those of the passes out that the desk of this number gave out.

@@ -5,7 +5,8 @@
 //! `PassBox`; once all threads have ended, `close_desk` closes a desk with the passes that are its own.
 //!
 //! Promised: `new_desks` opens each backend of the configuration and nothing else, in their order, each with a journal of the size that is
-//! configured. `close_desk` closes a desk as `lb_desk_shared` promises: the receipts of its passes share out one history of its backend.
+//! configured. `close_desk` closes a desk as `lb_desk_shared` promises: the receipts of its passes share out one history of its backend. Or
+//! it says why it can't, as that crate does.
 //! Start at `new_desks`; the words are in `specs/NewDesks.antt` and `specs/Closed.antt`. Private to `lb_run`.
 #![tactic(auto)]
 
@@ -14,7 +15,7 @@ mod naming;
 mod new_desk;
 mod pass_box;
 
-pub use closing::{ClosedDesk, close_desk, closed_line};
+pub use closing::{close_desk, closed_line};
 pub use naming::named_desks;
 pub use new_desk::{NewDesk, new_desks};
 pub use pass_box::PassBox;

@@ -1,1 +1,2 @@
 mod AllReturned
+mod Seeing

@@ -1,3 +1,4 @@
+pub mod Copies
 pub mod Lines
 pub mod Returning
 pub mod Saved

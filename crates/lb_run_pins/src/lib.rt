@@ -2,8 +2,8 @@
 //! its end.
 //!
 //! Promised: `pins_text` gives the spelling of `pin_file` for what `pin_file_return` says of each table's pins, in the order of the
-//! tables. No clause says when the file is read and written, and what the system's files do; that is tested. Nor does one say at which
-//! `Pace` a text is made. Start at `Kept`.
+//! tables. Inside, `copies` gives it those of all backends that are configured, in their order. No clause says when the file is read and
+//! written, and what the system's files do; that is tested. Nor does one say at which `Pace` a text is made. Start at `Kept`.
 //! Private to `lb_run`.
 #![tactic(auto)]
 

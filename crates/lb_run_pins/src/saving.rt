@@ -1,4 +1,8 @@
 //! Writing the pins to their file, while the balancer runs and at its end.
+ghost use Rattle.std.specs.Prelude.{◌≡◌, map, IfOk};
+ghost use Rattle.lb_desk_backend.specs.Configured.{OpenInOrder};
+ghost use Rattle.lb_run_pins.specs.Copies.{AreCopies, seat_seen};
+
 use crate::moments::now_on;
 use crate::tables::{Table, mark_of, pins_text};
 use crate::{Pace, PinsPlace, TextFiles, Unwritten};
@@ -77,7 +81,10 @@ fn save_changed<R: Host + TextFiles, D: Seating<R>, G: Drop>(
     seats: &mut [D::Seat],
     written: Option<u64>,
     pace: Pace<'_>,
-) -> Option<u64> {
+) -> Option<u64>
+    requires { OpenInOrder floor.now.config.now.backends (map D.Seat.Mover.backend seats.old) }
+    ensures { map D.Seat.Mover.backend seats.new ≡ map D.Seat.Mover.backend seats.old }
+{
     match try_save(rt, floor, place, seats, written, pace) {
         Ok(mark) => Some(mark),
         Err(_) => {
@@ -95,7 +102,10 @@ fn try_save<R: Host + TextFiles, D: Seating<R>, G: Drop>(
     seats: &mut [D::Seat],
     written: Option<u64>,
     pace: Pace<'_>,
-) -> Result<u64, Unwritten> {
+) -> Result<u64, Unwritten>
+    requires { OpenInOrder floor.now.config.now.backends (map D.Seat.Mover.backend seats.old) }
+    ensures { map D.Seat.Mover.backend seats.new ≡ map D.Seat.Mover.backend seats.old }
+{
     let tables = copies(rt, floor, seats)?;
     let mark = mark_of(&tables);
     if written == Some(mark) {
@@ -112,11 +122,19 @@ fn copies<'a, R: Host, D: Seating<R>, G: Drop>(
     rt: &R,
     floor: &Floor<'a, D, G>,
     seats: &mut [D::Seat],
-) -> Result<Vec<Table<'a>>, AllocError> {
-    let mut tables = Vec::with_capacity(floor.alloc, seats.len())?;
-    for (backend, seat) in floor.config.backends().iter().zip(seats) {
-        let pins = seat.rows(rt, floor.alloc)?;
-        tables.push(Table::new(backend, pins))?;
+) -> Result<Vec<Table<'a>>, AllocError>
+    requires { OpenInOrder floor.now.config.now.backends (map D.Seat.Mover.backend seats.old) }
+    ensures copies { IfOk result (λ tables. AreCopies floor.now.config.now.backends
+        (map (seat_seen D.Seat.Mover.backend D.Seat.Mover.entries) seats.old) tables.items) }
+    ensures seats { map D.Seat.Mover.backend seats.new ≡ map D.Seat.Mover.backend seats.old }
+{
+    let backends = floor.config.backends();
+    let mut tables = Vec::with_capacity(floor.alloc, backends.len())?;
+    let mut place = 0;
+    while place < backends.len() {
+        let pins = seats[place].rows(rt, floor.alloc)?;
+        tables.push(Table::new(&backends[place], pins))?;
+        place += 1;
     }
     Ok(tables)
 }
