@@ -7,8 +7,8 @@ use Rattle.pin_set.specs.declared.table_pin.TablePin.{TablePin}
 use Rattle.command_socket.specs.declared.socket.PinChange.{PinChange}
 use Rattle.command_socket_keys.specs.Keys.{key_in}
 use Rattle.lb_answers.specs.declared.named_backend.NamedBackend.{NamedBackend}
-use Rattle.lb_desk_steer.specs.Steering.{ArePinsAfter}
-use Rattle.command_socket_serve.specs.Desks.{DeskSeen}
+use Rattle.lb_desk_steer.specs.Steering.{SeesPins}
+use Rattle.command_socket_serve.specs.Desks.{DeskSeen, LooksAt}
 use Rattle.command_socket_serve.specs.Outcomes.{PrintsOn, Says}
 use Rattle.command_socket_serve.specs.Tasks.{ChangesEach, ChangesKey, ChangesPin, OfKey, OfWord, ShowsKey, names_for, names_of, of_key, type_of}
 
@@ -34,12 +34,11 @@ module _ (named : NamedBackend) (word : List ℕ) (key : PinKey) (found : Some k
       → Says (OfWord named word (ShowsKey named) old new) out sent after last
   shows old new text out after sent last is prints = record { text = text; is = of_word (ShowsKey named) old new text is; prints = prints }
 
-  module _ (change : PinChange) (moment : ℕ) (pins kept : List TablePin) (old mid new : DeskSeen) (at : ArePinsAfter old.backend old.entries pins)
-      (of : kept ≡ of_key key pins) (same : mid ≡ old) where
+  module _ (change : PinChange) (moment : ℕ) (pins kept : List TablePin) (old mid new : DeskSeen)
+      (at : SeesPins old.backend old.entries old.sights mid.sights pins) (looks : LooksAt old mid) (of : kept ≡ of_key key pins) where
     each_is : (text : List ℕ) → ChangesEach named change moment (names_for key kept) mid new text → ChangesKey named change moment key old new text
     each_is text each =
-        let there = subst (λ (d : DeskSeen). ChangesEach named change moment (names_for key kept) d new text) same each in
-        (pins, at, subst (λ (ps : List TablePin). ChangesEach named change moment (names_for key ps) old new text) of there)
+        (pins, mid, at, looks, subst (λ (ps : List TablePin). ChangesEach named change moment (names_for key ps) mid new text) of each)
 
     -- the key has no pin, and the plain one is changed
     pub one_changed : {E : Type 0} (out after : WriterState) (sent last : Result (Unit {0}) E) → length kept ≡ 0

@@ -1,6 +1,11 @@
--- A desk that is only looked at stays as it is.
-use Rattle.std.proofs.Common.{◌≡◌}
-use Rattle.command_socket_serve.specs.Desks.{DeskSeen}
+-- A desk that is only looked at, or not even that.
+use Rattle.std.proofs.Common.{List, [], ◌++◌, refl, sym, append-nil}
+use Rattle.lb_desk_model.specs.declared.entry.Entry.{Entry}
+use Rattle.lb_desk_steer.specs.Steering.{KeepsSights}
+use Rattle.command_socket_serve.specs.Desks.{DeskSeen, LooksAt}
 
-pub same_desk : (old new : DeskSeen) → new.entries ≡ old.entries → new.planned_now ≡ old.planned_now → new.backend ≡ old.backend → new ≡ old
-same_desk old new entries planned_now backend = λ i. record { entries = entries i; planned_now = planned_now i; backend = backend i }
+pub keeps_all : (sights : List (List Entry)) → KeepsSights sights sights
+keeps_all sights = ([], sym (append-nil sights))
+
+pub not_asked : (desk : DeskSeen) → LooksAt desk desk
+not_asked desk = record { entries = refl; planned_now = refl; backend = refl; sights = keeps_all desk.sights }

@@ -44,16 +44,16 @@ key_stays (Some key) Does old new text stays is = stays key is
 
 word_stays : (named : NamedBackend) (word : List ℕ) (Does : PinKey → DeskSeen → DeskSeen → List ℕ → Type 0) (old new : DeskSeen) (text : List ℕ)
     → ((k : PinKey) → Does k old new text → Stays old new) → OfWord named word Does old new text → Stays old new
-word_stays named word Does old new text stays (inl is) = same old new is.0
+word_stays named word Does old new text stays (inl is) = is.0.backend
 word_stays named word Does old new text stays (inr is) = key_stays (key_in (type_of named) word) Does old new text stays is
 
 asked_stays : (named : NamedBackend) (moment : ℕ) (task : BackendTask) (old new : DeskSeen) (text : List ℕ) → Asks named moment task old new text
     → Stays old new
 asked_stays named moment (Task.ShowKey word) old new text is =
-    word_stays named word (ShowsKey named) old new text (λ key shows. same old new shows.2) is
+    word_stays named word (ShowsKey named) old new text (λ key shows. shows.2.backend) is
 asked_stays named moment (Task.ChangeKey word change) old new text is =
     word_stays named word (ChangesKey named change moment) old new text
-    (λ key changes. each_stays named change moment _ old new text changes.2) is
+    (λ key changes. each_stays named change moment _ changes.1 new text changes.4 ∙ changes.3.backend) is
 asked_stays named moment Task.ShowSheet old new text is = is.backend
 asked_stays named moment Task.PlanDry old new text is = is.backend
 
@@ -79,7 +79,7 @@ module _ {D : Type 0} (seen : D → DeskSeen) where
   plain_stays console (Is.Change place change) desks used outcome is = at_stays place desks used _ (λ old new changes. changes.backend) is.2
   plain_stays console (Is.Plan place) desks used outcome is = at_stays place desks used _ (λ old new plans. plans.backend) is.0
   plain_stays console (Is.Show what place) desks used outcome is =
-      at_stays place desks used _ (λ old new shows. same old new shows.kept) is.2
+      at_stays place desks used _ (λ old new shows. shows.kept.backend) is.2
   plain_stays console Is.Stop desks used outcome is = ap (λ (ds : List D). backends_at seen ds) is.1
 
   carried_stays : (console : ConsoleView) (command : SocketResolved) (desks used : List D) (outcome : Outcome)

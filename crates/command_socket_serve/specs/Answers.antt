@@ -19,7 +19,7 @@ use Rattle.lb_desk_model.specs.declared.reply.Reply.TheVariants.{Done}
 use Rattle.pin_set.specs.declared.table_pin.TablePin.{TablePin}
 use Rattle.lb_desk_ports.specs.declared.refused.Refused.{Refused}
 use Rattle.lb_desk_ports.specs.declared.refused.Refused.TheVariants.{Memory}
-use Rattle.lb_desk_steer.specs.Steering.{ArePinsAfter, IsJournalAfter, commanding_entries}
+use Rattle.lb_desk_steer.specs.Steering.{KeepsSights, SeesJournal, SeesPins, commanding_entries}
 use Rattle.lb_desk_evacuate.specs.Evacuations.{Evacuates}
 use Rattle.lb_desk_evacuate.specs.declared.evacuating.Evacuation.{Evacuation}
 use Rattle.lb_desk_evacuate.specs.declared.evacuating.Evacuation.TheVariants as evacuation
@@ -29,7 +29,7 @@ use Rattle.lb_answers.specs.Replies.{reply_text}
 use Rattle.lb_answers.specs.Scores.{score_text}
 use Rattle.lb_answers.specs.Tables.{table_text}
 use Rattle.command_socket_serve.specs.Consoles.{ConsoleView}
-use Rattle.command_socket_serve.specs.Desks.{AtDesk, DeskSeen}
+use Rattle.command_socket_serve.specs.Desks.{AtDesk, DeskSeen, LooksAt}
 use Rattle.command_socket_serve.specs.Outcomes.{Outcome, no_outcome, only_text}
 use Rattle.command_socket_serve.specs.Refusals.{refused_line}
 use Rattle.command_socket_serve.specs.Tasks.{Asks}
@@ -56,6 +56,7 @@ pub record Changes (named : NamedBackend) (place : ℕ) (change : Change) (old n
   pub entries : new.entries ≡ old.entries ++ commanding_entries change reply
   pub planned_now : new.planned_now ≡ old.planned_now
   pub backend : new.backend ≡ old.backend
+  pub sights : KeepsSights old.sights new.sights
   pub text : outcome.text ≡ change_text named change.server reply
   pub changed : outcome.changed ≡ (if is_made reply then place ∷ [] else [])
 
@@ -75,22 +76,23 @@ pub record Plans (tries : ℕ) (old new : DeskSeen) (text : List ℕ) : Type 0 w
 
 -- ---- what is shown
 
--- What is shown of a backend: its pins, or the end of its history, at a moment after all events that were made at this desk
-abbrev pub IsShown : NamedBackend → DeskSeen → Shown → List ℕ → Type 0
-IsShown named desk Show.Table text =
-    (pins : List TablePin) × ArePinsAfter desk.backend desk.entries pins
+-- What is shown of a backend: its pins, or the end of its history, at a moment after all events that were made at this desk. The
+-- history at that moment is the desk's last sight
+abbrev pub IsShown : NamedBackend → DeskSeen → DeskSeen → Shown → List ℕ → Type 0
+IsShown named old new Show.Table text =
+    (pins : List TablePin) × SeesPins old.backend old.entries old.sights new.sights pins
     × (text ≡ table_text named.name named.servers.now named.table pins)
-IsShown named desk Show.Plan text =
-    (first : ℕ) × (entries : List Entry) × IsJournalAfter desk.backend desk.entries first entries
+IsShown named old new Show.Plan text =
+    (first : ℕ) × (entries : List Entry) × SeesJournal old.backend old.entries old.sights new.sights first entries
     × (text ≡ plan_text (last_installed entries))
-IsShown named desk Show.Journal text =
-    (first : ℕ) × (entries : List Entry) × IsJournalAfter desk.backend desk.entries first entries
+IsShown named old new Show.Journal text =
+    (first : ℕ) × (entries : List Entry) × SeesJournal old.backend old.entries old.sights new.sights first entries
     × (text ≡ journal_text named.name named.servers.now first entries)
 
--- it is shown, or there is not memory enough for a copy; the desk stays as it is
+-- it is shown, or there is not memory enough for a copy; the desk is only looked at
 pub record Shows (named : NamedBackend) (what : Shown) (old new : DeskSeen) (text : List ℕ) : Type 0 where
-  pub shown : IsShown named old what text ⊎ (text ≡ refused_line Memory)
-  pub kept : new ≡ old
+  pub shown : IsShown named old new what text ⊎ (text ≡ refused_line Memory)
+  pub kept : LooksAt old new
 
 -- ---- a command
 

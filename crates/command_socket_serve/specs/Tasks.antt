@@ -31,12 +31,12 @@ use Rattle.lb_desk_model.specs.declared.reply.Reply.TheVariants.{Pinned, Cleared
 use Rattle.lb_desk_ports.specs.declared.refused.Refused.{Refused}
 use Rattle.lb_desk_ports.specs.declared.refused.Refused.TheVariants.{Memory}
 use Rattle.lb_desk_ports.specs.Movers.{snapshot_entries}
-use Rattle.lb_desk_steer.specs.Steering.{AddsAt, ArePinsAfter}
+use Rattle.lb_desk_steer.specs.Steering.{AddsAt, KeepsSights, SeesPins}
 use Rattle.lb_answers.specs.declared.named_backend.NamedBackend.{NamedBackend}
 use Rattle.lb_answers.specs.Replies.{reply_text}
 use Rattle.lb_answers.specs.Scores.{score_text}
 use Rattle.lb_answers.specs.Tables.{rows_text}
-use Rattle.command_socket_serve.specs.Desks.{DeskSeen}
+use Rattle.command_socket_serve.specs.Desks.{DeskSeen, LooksAt}
 use Rattle.command_socket_serve.specs.Refusals.{refused_line}
 
 -- ---- the pins of a key
@@ -56,10 +56,10 @@ type_of named = option_map (λ table. table.key_type) named.table
 abbrev pub OnlySays : List ℕ → DeskSeen → DeskSeen → List ℕ → Type 0
 OnlySays line old new text = (new ≡ old) × (text ≡ line)
 
--- the pins of the key at a moment after all events that were made at this desk
+-- the pins of the key at a moment after all events that were made at this desk. The history at that moment is the desk's last sight
 abbrev pub ShowsKey : NamedBackend → PinKey → DeskSeen → DeskSeen → List ℕ → Type 0
 ShowsKey named key old new text =
-    (pins : List TablePin) × ArePinsAfter old.backend old.entries pins × (new ≡ old)
+    (pins : List TablePin) × SeesPins old.backend old.entries old.sights new.sights pins × LooksAt old new
     × (text ≡ rows_text named.name named.servers.now named.table (length pins) (of_key key pins))
 
 -- ---- the pins of a key, changed
@@ -102,6 +102,7 @@ pub record ChangesPin (named : NamedBackend) (change : PinChange) (moment : ℕ)
   pub adds : AddsAt moment (event_of change name moment) old.entries new.entries reply
   pub planned_now : new.planned_now ≡ old.planned_now
   pub backend : new.backend ≡ old.backend
+  pub sights : KeepsSights old.sights new.sights
   pub text_is : text ≡ pin_text named change reply
 
 -- the pins of the names are changed, one after another
@@ -119,11 +120,11 @@ abbrev pub names_for : PinKey → List TablePin → List PinId
 names_for key [] = record { key = key; want = 0 } ∷ []
 names_for key (p ∷ more) = names_of (p ∷ more)
 
--- the pins are changed that the key has at a moment after all events that were made at this desk
+-- the pins are changed that the key has at a moment after all events that were made at this desk, as it was seen at that moment
 abbrev pub ChangesKey : NamedBackend → PinChange → ℕ → PinKey → DeskSeen → DeskSeen → List ℕ → Type 0
 ChangesKey named change moment key old new text =
-    (pins : List TablePin) × ArePinsAfter old.backend old.entries pins
-    × ChangesEach named change moment (names_for key (of_key key pins)) old new text
+    (pins : List TablePin) × (mid : DeskSeen) × SeesPins old.backend old.entries old.sights mid.sights pins × LooksAt old mid
+    × ChangesEach named change moment (names_for key (of_key key pins)) mid new text
 
 -- what is asked of the key that a word is. A word that is none is a fault
 abbrev pub OfKey : Option PinKey → (PinKey → DeskSeen → DeskSeen → List ℕ → Type 0) → DeskSeen → DeskSeen → List ℕ → Type 0
@@ -133,7 +134,7 @@ OfKey (Some key) Is old new text = Is key old new text
 -- the same, or there is not memory enough
 abbrev pub OfWord : NamedBackend → List ℕ → (PinKey → DeskSeen → DeskSeen → List ℕ → Type 0) → DeskSeen → DeskSeen → List ℕ → Type 0
 OfWord named word Is old new text =
-    OnlySays (refused_line Memory) old new text ⊎ OfKey (key_in (type_of named) word) Is old new text
+    (LooksAt old new × (text ≡ refused_line Memory)) ⊎ OfKey (key_in (type_of named) word) Is old new text
 
 -- ---- sheets and plans
 

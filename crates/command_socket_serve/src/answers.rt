@@ -32,7 +32,7 @@ pub(crate) fn answer<R, S: Steer<R>, G: Gate<R>, T: Told, W: Write>(
     sent: Printed,
 ) -> Printed
     requires { length desks.old ≡ length console.now.config.backends }
-    ensures answers { Does (Answers (desk_seen S.entries S.planned_now S.backend) console.now (looked_up console.now.config said.now) desks.old desks.new)
+    ensures answers { Does (Answers (desk_seen S.entries S.planned_now S.backend S.sights) console.now (looked_up console.now.config said.now) desks.old desks.new)
         (T.told told.old) (T.told told.new) out.old sent out.new result }
     ensures seats { length desks.new ≡ length desks.old }
 {
@@ -68,7 +68,7 @@ fn carry_out<R, S: Steer<R>, G: Gate<R>, T: Told, W: Write>(
 ) -> Printed
     requires seats { length desks.old ≡ length console.now.config.backends }
     requires names { NamesOneOf (length console.now.config.backends) command }
-    ensures carries_out { Does (CarriesOut (desk_seen S.entries S.planned_now S.backend) console.now command.entry desks.old desks.new)
+    ensures carries_out { Does (CarriesOut (desk_seen S.entries S.planned_now S.backend S.sights) console.now command.entry desks.old desks.new)
         (T.told told.old) (T.told told.new) out.old sent out.new result }
     ensures seats { length desks.new ≡ length desks.old }
 {
@@ -97,7 +97,7 @@ fn carry_out_plain<R, S: Steer<R>, G: Gate<R>, T: Told, W: Write>(
 ) -> Printed
     requires seats { length desks.old ≡ length console.now.config.backends }
     requires names { NamesOneOfPlain (length console.now.config.backends) command }
-    ensures carries_out { Does (CarriesOutPlain (desk_seen S.entries S.planned_now S.backend) console.now command desks.old desks.new)
+    ensures carries_out { Does (CarriesOutPlain (desk_seen S.entries S.planned_now S.backend S.sights) console.now command desks.old desks.new)
         (T.told told.old) (T.told told.new) out.old sent out.new result }
     ensures seats { length desks.new ≡ length desks.old }
 {
@@ -133,7 +133,7 @@ fn change<R, S: Steer<R>, T: Told, W: Write>(
     out: &mut Counted<W>,
     sent: Printed,
 ) -> Printed
-    ensures { Does (Changes named.now place asked.now (desk_seen S.entries S.planned_now S.backend desk.old) (desk_seen S.entries S.planned_now S.backend desk.new))
+    ensures { Does (Changes named.now place asked.now (desk_seen S.entries S.planned_now S.backend S.sights desk.old) (desk_seen S.entries S.planned_now S.backend S.sights desk.new))
         (T.told told.old) (T.told told.new) out.old sent out.new result }
 {
     let reply = match desk.command(rt, *asked) {
@@ -165,7 +165,7 @@ fn plan<R, S: Steer<R>, G: Gate<R>, W: Write>(
     out: &mut Counted<W>,
     sent: Printed,
 ) -> Printed
-    ensures { Says (Plans tries (desk_seen S.entries S.planned_now S.backend desk.old) (desk_seen S.entries S.planned_now S.backend desk.new))
+    ensures { Says (Plans tries (desk_seen S.entries S.planned_now S.backend S.sights desk.old) (desk_seen S.entries S.planned_now S.backend S.sights desk.new))
         out.old sent out.new result }
 {
     match evacuate(rt, alloc, desk, gate, tries) {

@@ -33,7 +33,7 @@ pub fn serve_connection<R, S: Steer<R>, G: Gate<R>, T: Told, C: Read + Write>(
     stream: &mut C,
 ) -> Next
     requires { OpenInOrder console.now.config.backends (map S.backend desks.old) }
-    ensures serves { Serves (desk_seen S.entries S.planned_now S.backend) console.now (C.remaining stream.old) desks.old desks.new
+    ensures serves { Serves (desk_seen S.entries S.planned_now S.backend S.sights) console.now (C.remaining stream.old) desks.old desks.new
         (T.told told.old) (T.told told.new) result }
     ensures backends { map S.backend desks.new ≡ map S.backend desks.old }
 {

@@ -57,7 +57,7 @@ pub fn answer_line<R, S: Steer<R>, G: Gate<R>, T: Told, W: Write>(
     out: &mut Counted<W>,
 ) -> Answered
     requires { OpenInOrder console.now.config.backends (map S.backend desks.old) }
-    ensures answers { Does (AnswersLine (desk_seen S.entries S.planned_now S.backend) console.now line.now desks.old desks.new result.next)
+    ensures answers { Does (AnswersLine (desk_seen S.entries S.planned_now S.backend S.sights) console.now line.now desks.old desks.new result.next)
         (T.told told.old) (T.told told.new) out.old (Ok tt) out.new result.printed }
     ensures backends { map S.backend desks.new ≡ map S.backend desks.old }
 {
@@ -123,7 +123,7 @@ fn answer_all<R, S: Steer<R>, G: Gate<R>, T: Told, W: Write>(
     out: &mut Counted<W>,
 ) -> Printed
     requires { length desks.old ≡ length console.now.config.backends }
-    ensures answers { Does (AreAnswered (desk_seen S.entries S.planned_now S.backend) console.now commands.now desks.old desks.new)
+    ensures answers { Does (AreAnswered (desk_seen S.entries S.planned_now S.backend S.sights) console.now commands.now desks.old desks.new)
         (T.told told.old) (T.told told.new) out.old (Ok tt) out.new result }
     ensures seats { length desks.new ≡ length desks.old }
 {

@@ -5,7 +5,7 @@ ghost use Rattle.command_socket_serve.specs.Desks.{desk_seen};
 ghost use Rattle.command_socket_serve.specs.Outcomes.{PrintsOn, Says};
 ghost use Rattle.command_socket_serve.specs.Tasks.{ChangesEach, ChangesKey, ChangesPin, OfWord, ShowsKey, event_of, is_changed, names_for, names_of, of_key, pin_text, server_of, type_of};
 ghost use Rattle.lb_answers.specs.Tables.{rows_text};
-ghost use Rattle.lb_desk_steer.specs.Steering.{AddsAt};
+ghost use Rattle.lb_desk_steer.specs.Steering.{AddsAt, KeepsSights};
 
 use crate::printing::{Printed, print, print_fault, print_refused, print_reply};
 use command_socket::{CommandFault, KeyWord, PinChange};
@@ -33,7 +33,7 @@ pub(crate) fn show_key<R, S: Steer<R>, W: Write>(
     out: &mut Counted<W>,
     sent: Printed,
 ) -> Printed
-    ensures { Says (OfWord named.now word.now (ShowsKey named.now) (desk_seen S.entries S.planned_now S.backend desk.old) (desk_seen S.entries S.planned_now S.backend desk.new))
+    ensures { Says (OfWord named.now word.now (ShowsKey named.now) (desk_seen S.entries S.planned_now S.backend S.sights desk.old) (desk_seen S.entries S.planned_now S.backend S.sights desk.new))
         out.old sent out.new result }
 {
     let key = match key_in(alloc, named, word) {
@@ -76,7 +76,7 @@ pub(crate) fn change_key<R, S: Steer<R>, W: Write>(
     out: &mut Counted<W>,
     sent: Printed,
 ) -> Printed
-    ensures { Says (OfWord named.now word.now (ChangesKey named.now change.now moment) (desk_seen S.entries S.planned_now S.backend desk.old) (desk_seen S.entries S.planned_now S.backend desk.new))
+    ensures { Says (OfWord named.now word.now (ChangesKey named.now change.now moment) (desk_seen S.entries S.planned_now S.backend S.sights desk.old) (desk_seen S.entries S.planned_now S.backend S.sights desk.new))
         out.old sent out.new result }
 {
     let key = match key_in(alloc, named, word) {
@@ -138,7 +138,7 @@ fn change_each<R, S: Steer<R>, W: Write>(
     out: &mut Counted<W>,
     sent: Printed,
 ) -> Printed
-    ensures { Says (ChangesEach named.now change.now moment (names_of pins.now) (desk_seen S.entries S.planned_now S.backend desk.old) (desk_seen S.entries S.planned_now S.backend desk.new))
+    ensures { Says (ChangesEach named.now change.now moment (names_of pins.now) (desk_seen S.entries S.planned_now S.backend S.sights desk.old) (desk_seen S.entries S.planned_now S.backend S.sights desk.new))
         out.old sent out.new result }
 {
     let mut printed = sent;
@@ -159,7 +159,7 @@ fn change_pin<R, S: Steer<R>, W: Write>(
     out: &mut Counted<W>,
     sent: Printed,
 ) -> Printed
-    ensures { Says (ChangesPin named.now change.now moment name.now (desk_seen S.entries S.planned_now S.backend desk.old) (desk_seen S.entries S.planned_now S.backend desk.new))
+    ensures { Says (ChangesPin named.now change.now moment name.now (desk_seen S.entries S.planned_now S.backend S.sights desk.old) (desk_seen S.entries S.planned_now S.backend S.sights desk.new))
         out.old sent out.new result }
 {
     let reply = match make_change(rt, moment, desk, name, change) {
@@ -183,6 +183,7 @@ fn make_change<R, S: Steer<R>>(
     ensures entries { AddsAt moment (event_of change.now name.now moment) (S.entries desk.old) (S.entries desk.new) result }
     ensures planned_now { S.planned_now desk.new ≡ S.planned_now desk.old }
     ensures backend { S.backend desk.new ≡ S.backend desk.old }
+    ensures sights { KeepsSights (S.sights desk.old) (S.sights desk.new) }
 {
     let Ok(name) = copied(name) else {
         return Err(Refused::Memory);

@@ -27,7 +27,7 @@ pub(crate) fn show_sheet<R, S: Steer<R>, W: Write>(
     out: &mut Counted<W>,
     sent: Printed,
 ) -> Printed
-    ensures { Says (TakesSheet IsSheet (desk_seen S.entries S.planned_now S.backend desk.old) (desk_seen S.entries S.planned_now S.backend desk.new))
+    ensures { Says (TakesSheet IsSheet (desk_seen S.entries S.planned_now S.backend S.sights desk.old) (desk_seen S.entries S.planned_now S.backend S.sights desk.new))
         out.old sent out.new result }
 {
     match desk.snapshot(rt) {
@@ -53,7 +53,7 @@ pub(crate) fn plan_dry<R, S: Steer<R>, W: Write>(
     out: &mut Counted<W>,
     sent: Printed,
 ) -> Printed
-    ensures { Says (TakesSheet IsDryPlan (desk_seen S.entries S.planned_now S.backend desk.old) (desk_seen S.entries S.planned_now S.backend desk.new))
+    ensures { Says (TakesSheet IsDryPlan (desk_seen S.entries S.planned_now S.backend S.sights desk.old) (desk_seen S.entries S.planned_now S.backend S.sights desk.new))
         out.old sent out.new result }
 {
     match desk.snapshot(rt) {

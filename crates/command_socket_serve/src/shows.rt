@@ -21,7 +21,7 @@ pub(crate) fn show<R, S: Steer<R>, W: Write>(
     out: &mut Counted<W>,
     sent: Printed,
 ) -> Printed
-    ensures { Says (Shows named.now what (desk_seen S.entries S.planned_now S.backend desk.old) (desk_seen S.entries S.planned_now S.backend desk.new))
+    ensures { Says (Shows named.now what (desk_seen S.entries S.planned_now S.backend S.sights desk.old) (desk_seen S.entries S.planned_now S.backend S.sights desk.new))
         out.old sent out.new result }
 {
     match what {
@@ -41,7 +41,7 @@ fn show_table<R, S: Steer<R>, W: Write>(
     out: &mut Counted<W>,
     sent: Printed,
 ) -> Printed
-    ensures { Says (Shows named.now Show.Table (desk_seen S.entries S.planned_now S.backend desk.old) (desk_seen S.entries S.planned_now S.backend desk.new))
+    ensures { Says (Shows named.now Show.Table (desk_seen S.entries S.planned_now S.backend S.sights desk.old) (desk_seen S.entries S.planned_now S.backend S.sights desk.new))
         out.old sent out.new result }
 {
     match desk.rows(rt, alloc) {
@@ -60,7 +60,7 @@ fn show_plan<R, S: Steer<R>, W: Write>(
     out: &mut Counted<W>,
     sent: Printed,
 ) -> Printed
-    ensures { Says (Shows named.now Show.Plan (desk_seen S.entries S.planned_now S.backend desk.old) (desk_seen S.entries S.planned_now S.backend desk.new))
+    ensures { Says (Shows named.now Show.Plan (desk_seen S.entries S.planned_now S.backend S.sights desk.old) (desk_seen S.entries S.planned_now S.backend S.sights desk.new))
         out.old sent out.new result }
 {
     match desk.journal(rt, alloc) {
@@ -79,7 +79,7 @@ fn show_journal<R, S: Steer<R>, W: Write>(
     out: &mut Counted<W>,
     sent: Printed,
 ) -> Printed
-    ensures { Says (Shows named.now Show.Journal (desk_seen S.entries S.planned_now S.backend desk.old) (desk_seen S.entries S.planned_now S.backend desk.new))
+    ensures { Says (Shows named.now Show.Journal (desk_seen S.entries S.planned_now S.backend S.sights desk.old) (desk_seen S.entries S.planned_now S.backend S.sights desk.new))
         out.old sent out.new result }
 {
     match desk.journal(rt, alloc) {

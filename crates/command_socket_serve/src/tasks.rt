@@ -24,7 +24,7 @@ pub(crate) fn ask<R, S: Steer<R>, W: Write>(
     out: &mut Counted<W>,
     sent: Printed,
 ) -> Printed
-    ensures { Says (Asks named.now moment task.now (desk_seen S.entries S.planned_now S.backend desk.old) (desk_seen S.entries S.planned_now S.backend desk.new))
+    ensures { Says (Asks named.now moment task.now (desk_seen S.entries S.planned_now S.backend S.sights desk.old) (desk_seen S.entries S.planned_now S.backend S.sights desk.new))
         out.old sent out.new result }
 {
     match task {

@@ -1,5 +1,5 @@
 //! What the machine of `lb_desk_model` is worth: the laws of whole histories, whatever caller asked for their events, in whatever
-//! order. Private to `lb_desk`.
+//! order.
 //!
 //! Promised, in every history: an install answers Stale, and changes nothing, exactly where the view has changed since
 //! the plan's version. An installed plan keeps each pin once, and is best for the view that it met. Each call does

@@ -2,7 +2,7 @@
 //!
 //! Promised: `pin_pick` and `loose_pick` pick as the definitions of `lb_desk_model` say, at every state that the desk
 //! shows. A pick allocates nothing, and looks at each server at most three times; no pin and no round is gone through.
-//! Private to the `lb_desk` crates. Start at `pin_pick`.
+//! Start at `pin_pick`.
 #![tactic(auto)]
 
 mod balancing;

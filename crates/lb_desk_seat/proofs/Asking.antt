@@ -1,5 +1,5 @@
 -- What calls add to a seat's entries.
-use Rattle.std.proofs.Common.{◌≡◌, ℕ, List, [], ◌∷◌, ◌++◌, Result, Ok, Err, IfOk, OnErr, refl, sym, ap, ◌∙◌, append-nil, append_assoc}
+use Rattle.std.proofs.Common.{◌≡◌, ℕ, List, [], ◌∷◌, ◌++◌, Result, Ok, Err, IfOk, OnErr, ⊤, true, refl, sym, ap, ◌∙◌, append-nil, append_assoc}
 use mathlib.Core.List.{map-append}
 use Rattle.pin_set.specs.declared.totals.Score.{Score}
 use Rattle.lb_desk_model.specs.declared.entry.Entry.{Entry}
@@ -21,7 +21,9 @@ use Rattle.lb_desk_ports.specs.Movers.{PlansNow}
 use Rattle.lb_desk_ports.specs.Ports.{AddsAsk, asked_reply, opening_entries, opening_reply, shut_reply, shutting_entries}
 use Rattle.lb_desk_tie.specs.Receipts.{PassView}
 use Rattle.lb_desk_shared.specs.Calls.{AddsPlan, AddsStep, entries_of}
-use Rattle.lb_desk_steer.specs.Steering.{AddsAt}
+use Rattle.lb_desk_shared.specs.Desks.{Sees}
+use Rattle.lb_desk_step.specs.Desk.{DeskView, is_worn_for}
+use Rattle.lb_desk_steer.specs.Steering.{AddsAt, KeepsSights}
 use Rattle.lb_desk_seat.specs.Replies.{Answers, asked_of}
 
 -- a step adds its entry
@@ -31,24 +33,47 @@ step_adds backend old new event reply adds =
     ap (λ (p : PassView Entry). entries_of p.receipts) adds.receipt
     ∙ map-append (λ (r : ℕ × Entry). r.1) old.receipts ((adds.number, entry event reply) ∷ [])
 
--- a refused call adds none
-none_added : (old new : PassView Entry) → new ≡ old → entries_of new.receipts ≡ entries_of old.receipts ++ []
-none_added old new same = ap (λ (p : PassView Entry). entries_of p.receipts) same ∙ sym (append-nil (entries_of old.receipts))
+-- a sight adds none
+pub kept_by_sight : (backend : BackendParts) (old new : PassView Entry) (Is : DeskView → Type 0) → Sees backend old Is new
+    → entries_of new.receipts ≡ entries_of old.receipts
+kept_by_sight backend old new Is sees = ap (λ (p : PassView Entry). entries_of p.receipts) sees.1.sight
+
+none_added : (backend : BackendParts) (old new : PassView Entry) (Is : DeskView → Type 0) → Sees backend old Is new
+    → entries_of new.receipts ≡ entries_of old.receipts ++ []
+none_added backend old new Is sees = kept_by_sight backend old new Is sees ∙ sym (append-nil (entries_of old.receipts))
+
+-- ---- sights
+
+-- a step leaves them, and a refusal adds one
+pub step_grows : (backend : BackendParts) (old new : PassView Entry) (event : Event) (reply : Reply) → AddsStep backend old event reply new
+    → KeepsSights old.sights new.sights
+step_grows backend old new event reply adds = ([], ap (λ (p : PassView Entry). p.sights) adds.receipt ∙ sym (append-nil old.sights))
+
+pub sight_grows : (backend : BackendParts) (old new : PassView Entry) (Is : DeskView → Type 0) → Sees backend old Is new → KeepsSights old.sights new.sights
+sight_grows backend old new Is sees = (sees.1.reached.history ∷ [], ap (λ (p : PassView Entry). p.sights) sees.1.sight)
+
+pub grows_on : (old mid new : List (List Entry)) → KeepsSights old mid → KeepsSights mid new → KeepsSights old new
+grows_on old mid new first second =
+    (first.0 ++ second.0, second.1 ∙ ap (λ (l : List (List Entry)). l ++ second.0) first.1 ∙ append_assoc old first.0 second.0)
+
+-- ---- entries
 
 pub opening_adds : {S : Type 0} (backend : BackendParts) (old new : PassView Entry) (server : ℕ) (result : Result (Opening S) Refusal)
-    → IfOk result (λ opening. AddsStep backend old (Open server) (opening_reply opening) new) → OnErr result (new ≡ old)
+    → IfOk result (λ opening. AddsStep backend old (Open server) (opening_reply opening) new)
+    → OnErr result (Sees backend old (λ desk. is_worn_for desk (Open server) ≡ true) new)
     → entries_of new.receipts ≡ entries_of old.receipts ++ opening_entries server result
 opening_adds backend old new server (Ok opening) step err = step_adds backend old new (Open server) (opening_reply opening) step
-opening_adds backend old new server (Err refused) step err = none_added old new err
+opening_adds backend old new server (Err refused) step err = none_added backend old new (λ desk. is_worn_for desk (Open server) ≡ true) err
 
 pub shutting_adds : (backend : BackendParts) (old new : PassView Entry) (server : ℕ) (result : Result Shut Refusal)
-    → IfOk result (λ shut. AddsStep backend old (Close server) (shut_reply shut) new) → OnErr result (new ≡ old)
+    → IfOk result (λ shut. AddsStep backend old (Close server) (shut_reply shut) new)
+    → OnErr result (Sees backend old (λ desk. is_worn_for desk (Close server) ≡ true) new)
     → entries_of new.receipts ≡ entries_of old.receipts ++ shutting_entries server result
 shutting_adds backend old new server (Ok shut) step err = step_adds backend old new (Close server) (shut_reply shut) step
-shutting_adds backend old new server (Err refused) step err = none_added old new err
+shutting_adds backend old new server (Err refused) step err = none_added backend old new (λ desk. is_worn_for desk (Close server) ≡ true) err
 
 pub plan_adds : (backend : BackendParts) (old new : PassView Entry) (result : Result Score Refusal)
-    → IfOk result (λ score. AddsPlan backend old score new) → OnErr result (new ≡ old)
+    → IfOk result (λ score. AddsPlan backend old score new) → OnErr result (Sees backend old (λ desk. ⊤) new)
     → PlansNow (entries_of old.receipts) (entries_of new.receipts) result
 plan_adds backend old new (Ok score) plan err =
     let first : Entry = entry Snapshot (Sheet plan.sheet) in
@@ -60,7 +85,7 @@ plan_adds backend old new (Ok score) plan err =
           ∙ ap (λ (es : List Entry). es ++ second ∷ []) (step_adds backend old plan.between Snapshot (Sheet plan.sheet) plan.snapshot)
           ∙ append_assoc (entries_of old.receipts) (first ∷ []) (second ∷ []),
     )
-plan_adds backend old new (Err refused) plan err = ap (λ (p : PassView Entry). entries_of p.receipts) err
+plan_adds backend old new (Err refused) plan err = kept_by_sight backend old new (λ desk. ⊤) err
 
 -- ---- the two events of a request for a server
 

@@ -32,6 +32,10 @@ entries_at seat = entries_of seat.pass.receipts
 abbrev pub KeepsCounts : SeatView → SeatView → Type 0
 KeepsCounts old new = (new.refusals ≡ old.refusals) × (new.planned_now ≡ old.planned_now)
 
+-- the call leaves the entries as they are
+abbrev pub KeepsEntries : SeatView → SeatView → Type 0
+KeepsEntries old new = (entries_at new ≡ entries_at old) × KeepsCounts old new
+
 -- the call adds these entries
 abbrev pub Adds : SeatView → SeatView → List Entry → Type 0
 Adds old new added = (entries_at new ≡ entries_at old ++ added) × KeepsCounts old new

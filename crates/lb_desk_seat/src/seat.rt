@@ -1,8 +1,9 @@
 ghost use Rattle.std.specs.Prelude.{◌≡◌, false, [], ◌∷◌, IfOk, OnErr};
 ghost use Rattle.lb_desk_ports.specs.Calls.{after_call, entry};
 ghost use Rattle.lb_desk_seat.specs.Replies.{Answers};
-ghost use Rattle.lb_desk_seat.specs.Seats.{Adds, new_seat, with_refusals};
+ghost use Rattle.lb_desk_seat.specs.Seats.{Adds, KeepsEntries, new_seat, with_refusals};
 ghost use Rattle.lb_desk_shared.specs.Calls.{AddsStep, is_of_a_connection};
+ghost use Rattle.lb_desk_steer.specs.Steering.{KeepsSights};
 
 use lb_desk_model::{Entry, Event, Reply};
 use lb_desk_ports::Refused;
@@ -81,7 +82,9 @@ impl<'a, S: BuildHasher, B: Naming> Seat<'a, S, B> {
         ensures step { IfOk result
             (λ reply. AddsStep (B.opening self.old.pass.keeper) self.old.pass event reply self.new.pass) }
         ensures fits { IfOk result (λ reply. Answers event reply) }
-        ensures err { OnErr result (self.new ≡ self.old) }
+        ensures err { OnErr result (KeepsEntries self.old self.new) }
+        ensures keeper { self.new.pass.keeper ≡ self.old.pass.keeper }
+        ensures sights { KeepsSights self.old.pass.sights self.new.pass.sights }
     {
         let told = self.desk.tell(rt, &mut self.pass, event)?;
         Ok(told.reply)

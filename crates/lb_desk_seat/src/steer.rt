@@ -2,7 +2,7 @@ ghost use Rattle.std.specs.Prelude.{◌≡◌, false, IfOk};
 ghost use Rattle.lb_desk_seat.specs.Replies.{Answers};
 ghost use Rattle.lb_desk_seat.specs.Seats.{KeepsCounts, entries_at};
 ghost use Rattle.lb_desk_shared.specs.Calls.{is_of_a_connection};
-ghost use Rattle.lb_desk_steer.specs.Steering.{AddsAt};
+ghost use Rattle.lb_desk_steer.specs.Steering.{AddsAt, KeepsSights};
 
 use crate::Seat;
 use lb_desk_model::{Event, Reply, SetPin};
@@ -29,6 +29,7 @@ impl<S: BuildHasher, B: Naming> Seat<'_, S, B> {
         ensures fits { IfOk result (λ reply. Answers event reply) }
         ensures counts { KeepsCounts self.old self.new }
         ensures keeper { self.new.pass.keeper ≡ self.old.pass.keeper }
+        ensures sights { KeepsSights self.old.pass.sights self.new.pass.sights }
     {
         self.tell(rt, Event::Expire(moment))?;
         let reply = self.tell(rt, event)?;
@@ -37,6 +38,8 @@ impl<S: BuildHasher, B: Naming> Seat<'_, S, B> {
 }
 
 impl<R: Wait, S: BuildHasher, B: Naming> Steer<R> for Seat<'_, S, B> {
+    ghost sights = { λ seat. seat.pass.sights };
+
     fn command(&mut self, rt: &R, change: Change) -> Result<Reply, Refused> {
         let answer = self.tell(rt, Event::Command(change));
         self.count(&answer);
@@ -57,7 +60,8 @@ impl<R: Wait, S: BuildHasher, B: Naming> Steer<R> for Seat<'_, S, B> {
 
     #[tactic(auto, using(crate::proofs::Copying::pins_after))]
     fn rows(&mut self, rt: &R, alloc: Global) -> Result<Vec<TablePin>, AllocError> {
-        self.desk.rows(rt, &mut self.pass, alloc)
+        let pins = self.desk.rows(rt, &mut self.pass, alloc)?;
+        Ok(pins)
     }
 
     #[tactic(auto, using(crate::proofs::Copying::journal_after))]

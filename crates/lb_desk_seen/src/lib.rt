@@ -1,5 +1,5 @@
 //! What a running desk needs of the machine's laws: what it shows of a state, what it counts, and what holds of its log.
-//! Private to `lb_desk`.
+//! Private to the `lb_desk` crates.
 //!
 //! Promised: each install of any log since a backend's opening is stale exactly where the view has changed, or refused as the
 //! check refuses it, or best. Each call does nothing: its contract is a law. Start at `specs/Logs.antt`.

@@ -15,7 +15,7 @@ use Rattle.lb_desk_step.specs.Desk.{DeskView, KeepsHeadline, StandsAt, Takes}
 use Rattle.lb_desk_step.specs.Planning.{TakesPlan}
 use Rattle.lb_desk_step.proofs.NeverBad.{none_is_bad}
 use Rattle.lb_desk_tail.specs.Tail.{TailView}
-use Rattle.lb_desk_tie.specs.Receipts.{IsSound, PassView, Shares, receipts_of, with_receipt}
+use Rattle.lb_desk_tie.specs.Receipts.{Each, IsBeginningOf, IsSound, PassView, Shares, receipts_of, sights_of, with_receipt}
 use Rattle.lb_desk_shared.specs.declared.closing.CloseFault.{CloseFault}
 use Rattle.lb_desk_shared.specs.declared.closing.CloseFault.TheVariants.{PassesOut, SlotsOut}
 use Rattle.lb_desk_shared.specs.Calls.{AddsPlan, IsStepAt}
@@ -116,14 +116,15 @@ none_are_open tied passes is =
 
 -- what is left of a desk whose passes share out its history
 pub closes_of : (backend : BackendParts) (history : List Entry) (desk : DeskView) (passes : List (PassView Entry)) (rising : Bool)
-    → StandsAt backend history desk → KeepsHeadline desk → Shares history (receipts_of passes) → open_connections desk.shown ≡ 0 → rising ≡ true
+    → StandsAt backend history desk → KeepsHeadline desk → Shares history (receipts_of passes) → Each (IsBeginningOf history) (sights_of passes) → open_connections desk.shown ≡ 0 → rising ≡ true
     → Closes backend passes (record { journal = desk.journal; rising = rising })
-closes_of backend history desk passes rising at keeps shares none rises = record {
+closes_of backend history desk passes rising at keeps shares early none rises = record {
   history = history;
   end = at.reaches.state;
   steps = at.reaches.history;
   journal = at.end;
   receipts = shares;
+  sights = early;
   none_open = ap open_connections at.reaches.is ∙ none;
   headline = λ early late plan reply is. keeps backend history at early late plan reply is;
   none_bad = none_is_bad backend history at.reaches.state at.reaches.history;

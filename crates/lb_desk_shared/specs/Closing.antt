@@ -13,7 +13,7 @@ use Rattle.lb_desk_ports.specs.Calls.{entry}
 use Rattle.lb_desk_ports.specs.Movers.{NoneIsBad}
 use Rattle.lb_desk_seen.specs.Logs.{Headline}
 use Rattle.lb_desk_tail.specs.Tail.{IsTailOf}
-use Rattle.lb_desk_tie.specs.Receipts.{PassView, Shares, receipts_of}
+use Rattle.lb_desk_tie.specs.Receipts.{Each, PassView, IsBeginningOf, Shares, receipts_of, sights_of}
 use Rattle.lb_desk_shared.specs.declared.closing.CloseFault.{CloseFault}
 use Rattle.lb_desk_shared.specs.declared.closing.CloseFault.TheVariants.{PassesOut, SlotsOut}
 use Rattle.lb_desk_shared.specs.declared.closing.Closing.{Closing}
@@ -39,6 +39,8 @@ pub record Closes (backend : BackendParts) (passes : List (PassView Entry)) (clo
   pub journal : IsTailOf history closing.journal
   -- each entry of the history has one receipt, at its number, and there is no other receipt
   pub receipts : Shares history (receipts_of passes)
+  -- each sight of a pass is a beginning of the history: so is the desk of each copy and of each refusal
+  pub sights : Each (IsBeginningOf history) (sights_of passes)
   -- no connection is open
   pub none_open : open_connections (seen end) ≡ 0
   -- each install of the history, also one that the journal has forgotten, is stale exactly where the view had changed, or refused

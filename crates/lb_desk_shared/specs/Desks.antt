@@ -5,7 +5,7 @@ use Rattle.lb_desk_model.specs.Backends.{BackendParts}
 use Rattle.lb_desk_shared.specs.declared.journal_copy.JournalCopy.{JournalCopy}
 use Rattle.lb_desk_step.specs.Desk.{DeskView, StandsAt}
 use Rattle.lb_desk_tail.specs.Tail.{TailView}
-use Rattle.lb_desk_tie.specs.Receipts.{Each, KeeperView, StandsIn, rises}
+use Rattle.lb_desk_tie.specs.Receipts.{Each, KeeperView, PassView, StandsIn, rises, with_sight}
 
 -- what lies under the lock: a desk, and the keeper of its receipts
 pub record TiedView : Type 0 where
@@ -26,6 +26,13 @@ pub record IsCopyOf (size : ℕ) (journal : TailView Entry) (copy : JournalCopy)
   pub first : copy.first ≡ journal.first
   pub entries : copy.entries.items ≡ journal.entries
 
--- this is true of the backend's desk at some point of its history which has all of the receipts
-abbrev pub AtAPoint : BackendParts → List (ℕ × Entry) → (DeskView → Type 0) → Type 0
-AtAPoint backend receipts Is = (desk : DeskView) × IsReached backend receipts desk × Is desk
+-- the pass has one sight more, of the history that leads to this desk, and its receipts are in that history
+pub record SeesDesk (backend : BackendParts) (old : PassView Entry) (desk : DeskView) (new : PassView Entry) : Type 0 where
+  pub reached : IsReached backend old.receipts desk
+  pub sight : new ≡ with_sight old reached.history
+  -- so it is still a pass of the same desk
+  pub keeper : new.keeper ≡ old.keeper
+
+-- the pass has one sight more, and this is true of the desk that it saw
+abbrev pub Sees : BackendParts → PassView Entry → (DeskView → Type 0) → PassView Entry → Type 0
+Sees backend old Is new = (desk : DeskView) × SeesDesk backend old desk new × Is desk

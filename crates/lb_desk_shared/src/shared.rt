@@ -1,10 +1,10 @@
-ghost use Rattle.std.specs.Prelude.{◌≡◌, true, false, [], Some, vec_len, IfOk, IfErr, OnErr, IsErrOf};
+ghost use Rattle.std.specs.Prelude.{◌≡◌, ◌⊎◌, ⊤, true, false, [], Some, vec_len, IfOk, IfErr, OnErr, IsErrOf};
 ghost use Rattle.std.specs.Sync.Mutex.{mutex_guard_value};
 ghost use Rattle.lb_desk_ports.specs.Calls.{entry};
 ghost use Rattle.lb_desk_ports.specs.Ports.{IfOpened, opening_reply, shut_reply};
 ghost use Rattle.lb_desk_shared.specs.Calls.{AddsPlan, AddsStep, IsStepAt, is_of_a_connection};
 ghost use Rattle.lb_desk_shared.specs.Closing.{Closes, fault_of};
-ghost use Rattle.lb_desk_shared.specs.Desks.{AtAPoint, IsCopyOf};
+ghost use Rattle.lb_desk_shared.specs.Desks.{IsCopyOf, Sees};
 ghost use Rattle.lb_desk_model.specs.declared.event.Event.TheVariants as event;
 ghost use Rattle.lb_desk_step.specs.Desk.{StandsAt, is_worn_for, may_take_memory};
 ghost use Rattle.lb_desk_step.specs.Planning.{is_worn_for_two};
@@ -80,7 +80,7 @@ impl<S: BuildHasher, B: Naming> SharedDesk<S, B> {
     /// connection there are `open` and `shut`.
     ///
     /// Refused as `Worn` (81) only at a point of the backend's history at which `Desk::advance` refuses the event so, and when out
-    /// of memory only if the event may need some. Then the pass gets no receipt.
+    /// of memory only if the event may need some. Then the pass gets no receipt, but a sight of the history at that point.
     pub fn tell<R: Wait>(
         &self,
         rt: &R,
@@ -93,12 +93,13 @@ impl<S: BuildHasher, B: Naming> SharedDesk<S, B> {
             (λ told. pass.new ≡ with_receipt pass.old (told.number, entry event told.reply)) }
         ensures step { IfOk result
             (λ told. IsStepAt (B.opening self.now) pass.old.receipts told.number event told.reply) }
-        ensures worn { IsErrOf result Refused.Worn → AtAPoint
+        ensures worn { IsErrOf result Refused.Worn → Sees
             (B.opening self.now)
-            pass.old.receipts
-            (λ desk. is_worn_for desk event ≡ true) }
+            pass.old
+            (λ desk. is_worn_for desk event ≡ true)
+            pass.new }
         ensures memory { IsErrOf result Refused.Memory → may_take_memory event ≡ true }
-        ensures err { OnErr result (pass.new ≡ pass.old) }
+        ensures err { OnErr result (Sees (B.opening self.now) pass.old (λ _. ⊤) pass.new) }
     {
         self.take(rt, pass, event)
     }
@@ -115,12 +116,13 @@ impl<S: BuildHasher, B: Naming> SharedDesk<S, B> {
             (λ told. pass.new ≡ with_receipt pass.old (told.number, entry event told.reply)) }
         ensures step { IfOk result
             (λ told. IsStepAt (B.opening self.now) pass.old.receipts told.number event told.reply) }
-        ensures worn { IsErrOf result Refused.Worn → AtAPoint
+        ensures worn { IsErrOf result Refused.Worn → Sees
             (B.opening self.now)
-            pass.old.receipts
-            (λ desk. is_worn_for desk event ≡ true) }
+            pass.old
+            (λ desk. is_worn_for desk event ≡ true)
+            pass.new }
         ensures memory { IsErrOf result Refused.Memory → may_take_memory event ≡ true }
-        ensures err { OnErr result (pass.new ≡ pass.old) }
+        ensures err { OnErr result (Sees (B.opening self.now) pass.old (λ _. ⊤) pass.new) }
     {
         let mut held = self.hold(rt);
         let (told, forgotten) = held.tell(pass, event)?;
@@ -143,11 +145,13 @@ impl<S: BuildHasher, B: Naming> SharedDesk<S, B> {
         ensures event { IfOk result (λ receipt. receipt.1.event ≡ event) }
         ensures step { IfOk result
             (λ receipt. IsStepAt (B.opening self.now) pass.old.receipts receipt.0 event receipt.1.reply) }
-        ensures worn { IsErrOf result Refused.Worn → AtAPoint
+        ensures worn { IsErrOf result Refused.Worn → Sees
             (B.opening self.now)
-            pass.old.receipts
-            (λ desk. is_worn_for desk event ≡ true) }
-        ensures err { OnErr result (pass.new ≡ pass.old) }
+            pass.old
+            (λ desk. is_worn_for desk event ≡ true)
+            pass.new }
+        ensures err { OnErr result
+            ((pass.new ≡ pass.old) ⊎ Sees (B.opening self.now) pass.old (λ _. ⊤) pass.new) }
     {
         let copy = event.clone()?;
         let told = self.tell(rt, pass, event)?;
@@ -167,11 +171,11 @@ impl<S: BuildHasher, B: Naming> SharedDesk<S, B> {
         ensures step { IfOk result
             (λ opening. AddsStep (B.opening self.now) pass.old (event.Open server) (opening_reply opening) pass.new) }
         ensures refused { IfErr result (λ refused. refused ≡ Refused.Worn) }
-        ensures worn { OnErr result (AtAPoint
+        ensures worn { OnErr result (Sees
             (B.opening self.now)
-            pass.old.receipts
-            (λ desk. is_worn_for desk (event.Open server) ≡ true)) }
-        ensures err { OnErr result (pass.new ≡ pass.old) }
+            pass.old
+            (λ desk. is_worn_for desk (event.Open server) ≡ true)
+            pass.new) }
         ensures desk { IfOpened result (λ slot. slot.desk ≡ self.now) }
         ensures server { IfOpened result (λ slot. slot.server ≡ server) }
     {
@@ -197,11 +201,11 @@ impl<S: BuildHasher, B: Naming> SharedDesk<S, B> {
         ensures step { IfOk result
             (λ shut. AddsStep (B.opening self.now) pass.old (event.Close slot.server) (shut_reply shut) pass.new) }
         ensures refused { IfErr result (λ refused. refused ≡ Refused.Worn) }
-        ensures worn { OnErr result (AtAPoint
+        ensures worn { OnErr result (Sees
             (B.opening self.now)
-            pass.old.receipts
-            (λ desk. is_worn_for desk (event.Close slot.server) ≡ true)) }
-        ensures err { OnErr result (pass.new ≡ pass.old) }
+            pass.old
+            (λ desk. is_worn_for desk (event.Close slot.server) ≡ true)
+            pass.new) }
     {
         let Slot { desk: _, server } = slot;
         let told = self.take(rt, pass, Event::Close(server))?;
@@ -215,15 +219,16 @@ impl<S: BuildHasher, B: Naming> SharedDesk<S, B> {
     /// long as a whole planning takes.
     ///
     /// Refused when out of memory, and as `Worn` (81) only at a point of the backend's history at which the second of the two events
-    /// would be. Then the pass gets no receipt.
+    /// would be. Then the pass gets no receipt, but a sight.
     pub fn plan_now<R: Wait>(&self, rt: &R, pass: &mut Pass<Entry, B>) -> Result<Score, Refused>
         requires { pass.old.keeper ≡ self.now }
         ensures plan { IfOk result (λ score. AddsPlan (B.opening self.now) pass.old score pass.new) }
-        ensures worn { IsErrOf result Refused.Worn → AtAPoint
+        ensures worn { IsErrOf result Refused.Worn → Sees
             (B.opening self.now)
-            pass.old.receipts
-            (λ desk. is_worn_for_two desk ≡ true) }
-        ensures err { OnErr result (pass.new ≡ pass.old) }
+            pass.old
+            (λ desk. is_worn_for_two desk ≡ true)
+            pass.new }
+        ensures err { OnErr result (Sees (B.opening self.now) pass.old (λ _. ⊤) pass.new) }
     {
         let mut held = self.hold(rt);
         let taken = held.plan_now(pass)?;
@@ -232,7 +237,7 @@ impl<S: BuildHasher, B: Naming> SharedDesk<S, B> {
     }
 
     /// Copies of the pins at one moment, in order of last use, the one that wasn't used for longest first. All receipts of the pass
-    /// are of events before that moment. It is no event, and the pass gets no receipt.
+    /// are of events before that moment. It is no event: the pass gets no receipt, but a sight of the history at that moment.
     ///
     /// The others wait for one pass through the pins as they lie in memory, with a copy of each key. They don't wait while the pins
     /// are put into order of last use, which takes longer and copies each key once more. For a moment there is memory for two lists
@@ -244,22 +249,21 @@ impl<S: BuildHasher, B: Naming> SharedDesk<S, B> {
         alloc: Global,
     ) -> Result<Vec<TablePin>, AllocError>
         requires { pass.old.keeper ≡ self.now }
-        ensures pins { IfOk result
-            (λ rows. AtAPoint
+        ensures pins { Sees
             (B.opening self.now)
-            pass.old.receipts
-            (λ desk. rows.items ≡ desk.shown.pins)) }
-        ensures pass { pass.new ≡ pass.old }
+            pass.old
+            (λ desk. IfOk result (λ rows. rows.items ≡ desk.shown.pins))
+            pass.new }
     {
         let mut held = self.hold(rt);
-        held.confirm(pass);
+        held.see(pass);
         let copy = held.copy_table(alloc)?;
         drop(held);
         copy.rows(alloc)
     }
 
-    /// A copy of all that the journal keeps at one moment. All receipts of the pass are of events before that moment. It is no event,
-    /// and the pass gets no receipt.
+    /// A copy of all that the journal keeps at one moment. All receipts of the pass are of events before that moment. It is no event:
+    /// the pass gets no receipt, but a sight of the history at that moment.
     ///
     /// The others wait while each entry is copied. The only error is out of memory.
     pub fn entries<R: Wait>(
@@ -269,15 +273,14 @@ impl<S: BuildHasher, B: Naming> SharedDesk<S, B> {
         alloc: Global,
     ) -> Result<JournalCopy, AllocError>
         requires { pass.old.keeper ≡ self.now }
-        ensures journal { IfOk result
-            (λ copy. AtAPoint
+        ensures journal { Sees
             (B.opening self.now)
-            pass.old.receipts
-            (λ desk. IsCopyOf (B.journal_size self.now) desk.journal copy)) }
-        ensures pass { pass.new ≡ pass.old }
+            pass.old
+            (λ desk. IfOk result (λ copy. IsCopyOf (B.journal_size self.now) desk.journal copy))
+            pass.new }
     {
         let mut held = self.hold(rt);
-        held.confirm(pass);
+        held.see(pass);
         held.entries(alloc)
     }
 
@@ -311,7 +314,8 @@ impl<S: BuildHasher + Drop, B: Naming> SharedDesk<S, B> {
     ///
     /// Refused with 82 if fewer passes come back than were given out, and otherwise with 83 if a connection is open. Then the passes are
     /// handed back as they were, with the desk, which has this number. No type says that, so no clause does. If it isn't refused, no connection
-    /// is open, and the passes have all receipts; that no pass without a receipt is missing, no clause outside the crate says.
+    /// is open, the passes have all receipts, and each of their sights is a beginning of the history; that no pass without a receipt is missing,
+    /// no clause outside the crate says.
     pub fn close(self, passes: Vec<Pass<Entry, B>>) -> Result<Closing, StillOut<S, B>>
         requires { AreOf self passes.items }
         ensures closes { IfOk result (λ closing. Closes (B.opening self) passes.items closing) }

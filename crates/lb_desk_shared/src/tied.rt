@@ -1,8 +1,8 @@
-ghost use Rattle.std.specs.Prelude.{◌≡◌, ◌+◌, ◌↔◌, true, [], None, Some, length, vec_len, IfOk, OnErr, IsErrOf};
+ghost use Rattle.std.specs.Prelude.{◌≡◌, ◌+◌, ◌↔◌, ⊤, true, [], None, Some, length, vec_len, IfOk, OnErr, IsErrOf};
 ghost use Rattle.lb_desk_ports.specs.Calls.{entry};
 ghost use Rattle.lb_desk_shared.specs.Calls.{AddsPlan, IsStepAt};
 ghost use Rattle.lb_desk_shared.specs.Closing.{Closes, fault_of};
-ghost use Rattle.lb_desk_shared.specs.Desks.{AtAPoint, IsReached};
+ghost use Rattle.lb_desk_shared.specs.Desks.{Sees, SeesDesk};
 ghost use Rattle.lb_desk_step.specs.Desk.{StandsAt, Takes, is_worn_for, may_take_memory};
 ghost use Rattle.lb_desk_step.specs.Planning.{TakesPlan, is_worn_for_two};
 ghost use Rattle.lb_desk_tie.specs.Receipts.{AreOf, new_keeper, new_pass, with_entry, with_pass, with_receipt};
@@ -98,17 +98,19 @@ impl<S: BuildHasher, B: Naming> TiedDesk<S, B> {
         // Where it is refused.
         ensures worn { IsErrOf result Refused.Worn ↔ (is_worn_for self.old.desk event ≡ true) }
         ensures memory { IsErrOf result Refused.Memory → may_take_memory event ≡ true }
-        ensures err { OnErr result ((self.new ≡ self.old) × (pass.new ≡ pass.old)) }
-        ensures worn_at { IsErrOf result Refused.Worn → AtAPoint
+        ensures same { OnErr result (self.new ≡ self.old) }
+        ensures err { OnErr result (Sees (B.opening self.old.keeper.number) pass.old (λ _. ⊤) pass.new) }
+        ensures worn_at { IsErrOf result Refused.Worn → Sees
             (B.opening self.old.keeper.number)
-            pass.old.receipts
-            (λ desk. is_worn_for desk event ≡ true) }
+            pass.old
+            (λ desk. is_worn_for desk event ≡ true)
+            pass.new }
     {
         self.desk.stands_at_a_log();
         let Taken { reply, forgotten } = match self.desk.advance(event) {
             Ok(taken) => taken,
             Err(refused) => {
-                self.keeper.confirm(pass);
+                self.keeper.see(pass);
                 return Err(refused);
             }
         };
@@ -138,17 +140,19 @@ impl<S: BuildHasher, B: Naming> TiedDesk<S, B> {
 
         // Where it is refused.
         ensures worn { IsErrOf result Refused.Worn ↔ (is_worn_for_two self.old.desk ≡ true) }
-        ensures err { OnErr result ((self.new ≡ self.old) × (pass.new ≡ pass.old)) }
-        ensures worn_at { IsErrOf result Refused.Worn → AtAPoint
+        ensures same { OnErr result (self.new ≡ self.old) }
+        ensures err { OnErr result (Sees (B.opening self.old.keeper.number) pass.old (λ _. ⊤) pass.new) }
+        ensures worn_at { IsErrOf result Refused.Worn → Sees
             (B.opening self.old.keeper.number)
-            pass.old.receipts
-            (λ desk. is_worn_for_two desk ≡ true) }
+            pass.old
+            (λ desk. is_worn_for_two desk ≡ true)
+            pass.new }
     {
         self.desk.stands_at_a_log();
         let taken = match self.desk.advance_by_plan() {
             Ok(taken) => taken,
             Err(refused) => {
-                self.keeper.confirm(pass);
+                self.keeper.see(pass);
                 return Err(refused);
             }
         };
@@ -157,15 +161,15 @@ impl<S: BuildHasher, B: Naming> TiedDesk<S, B> {
         Ok(taken)
     }
 
-    /// Changes nothing: what it says is that all receipts of the pass are in the history that the desk stands at the end of, and that
-    /// the journal has the size with which it opened.
-    pub(crate) fn confirm(&mut self, pass: &mut Pass<Entry, B>)
+    /// The pass gets a sight of the history that the desk stands at the end of, in which all its receipts are. The journal has the size
+    /// with which it opened. At run time nothing changes.
+    pub(crate) fn see(&mut self, pass: &mut Pass<Entry, B>)
         requires { pass.old.keeper ≡ self.old.keeper.number }
-        ensures same { (self.new ≡ self.old) × (pass.new ≡ pass.old) }
-        ensures reached { IsReached (B.opening self.old.keeper.number) pass.old.receipts self.old.desk }
+        ensures same { self.new ≡ self.old }
+        ensures sees { SeesDesk (B.opening self.old.keeper.number) pass.old self.old.desk pass.new }
         ensures size { self.old.desk.journal.capacity ≡ B.journal_size self.old.keeper.number }
     {
-        self.keeper.confirm(pass);
+        self.keeper.see(pass);
     }
 
     /// A copy of the pins, which gives them out in order of last use.

@@ -47,6 +47,23 @@ abbrev pub ArePinsAfter : OpenedBackend → List Entry → List TablePin → Typ
 ArePinsAfter backend made pins = (at : Moment backend.parts made) × (pins ≡ at.state.pins)
 
 -- these entries are all that the journal keeps of the history at such a moment, and so many are before them
+abbrev pub IsJournalAt : (backend : OpenedBackend) (made : List Entry) → Moment backend.parts made → ℕ → List Entry → Type 0
+IsJournalAt backend made at first entries = IsTailOf at.history (record { capacity = backend.journal_size; first = first; entries = entries })
+
 abbrev pub IsJournalAfter : OpenedBackend → List Entry → ℕ → List Entry → Type 0
-IsJournalAfter backend made first entries =
-    (at : Moment backend.parts made) × IsTailOf at.history (record { capacity = backend.journal_size; first = first; entries = entries })
+IsJournalAfter backend made first entries = (at : Moment backend.parts made) × IsJournalAt backend made at first entries
+
+-- ---- sights
+
+-- the sights so far, and others after them
+abbrev pub KeepsSights : List (List Entry) → List (List Entry) → Type 0
+KeepsSights old new = (more : List (List Entry)) × (new ≡ old ++ more)
+
+-- one sight more, of the history at such a moment, and these are the pins at that moment
+abbrev pub SeesPins : OpenedBackend → List Entry → List (List Entry) → List (List Entry) → List TablePin → Type 0
+SeesPins backend made old new pins = (at : Moment backend.parts made) × (new ≡ old ++ at.history ∷ []) × (pins ≡ at.state.pins)
+
+-- one sight more, of the history at such a moment, and these entries are all that the journal keeps of it
+abbrev pub SeesJournal : OpenedBackend → List Entry → List (List Entry) → List (List Entry) → ℕ → List Entry → Type 0
+SeesJournal backend made old new first entries =
+    (at : Moment backend.parts made) × (new ≡ old ++ at.history ∷ []) × IsJournalAt backend made at first entries

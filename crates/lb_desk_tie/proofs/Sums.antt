@@ -1,11 +1,11 @@
 -- Sums over lists, facts on each element, and lists of receipts that grow.
-use Rattle.std.proofs.Common.{◌≡◌, ℕ, zero, suc, ◌+◌, ◌<◌, ◌≤◌, List, [], ◌∷◌, ◌++◌, length, set, Some, Bool, true, false, ◌&&◌, refl, sym, ap, ◌∙◌, subst, arith, length-append}
+use Rattle.std.proofs.Common.{◌≡◌, ℕ, zero, suc, ◌+◌, ◌<◌, ◌≤◌, List, [], ◌∷◌, ◌++◌, length, set, Some, Bool, true, false, ◌&&◌, refl, sym, ap, ◌∙◌, subst, arith, length-append, append_assoc}
 use Rattle.std.specs.Prelude.{slice_get, nat_le}
 use Rattle.std.proofs.lemmas.Bool.{and_from, le-leb}
 use Rattle.std.proofs.lemmas.Bool.Decides.{nat_tests}
 use mathlib.Core.Option.{some, some-ne-none, some-injective}
 use lib.ListN.{get_elem?}
-use Rattle.lb_desk_tie.specs.Receipts.{Each, total, one_if_same, one_if_below, StandsIn, rises_from, rises, all_rise, times, IsSound}
+use Rattle.lb_desk_tie.specs.Receipts.{Each, total, one_if_same, one_if_below, StandsIn, rises_from, rises, all_rise, times, IsSound, IsBeginningOf}
 use Rattle.lb_desk_tie.specs.Rule.{next_from}
 
 module _ {A : Type 0} where
@@ -84,6 +84,10 @@ and_assoc : (a b c : Bool) → (a && b) && c ≡ a && (b && c)
 and_assoc true b c = refl
 and_assoc false b c = refl
 
+pub append_empty : {A : Type 0} (xs : List A) → xs ++ [] ≡ xs
+append_empty [] = refl
+append_empty (x ∷ xs) = ap (λ l. x ∷ l) (append_empty xs)
+
 module _ {E : Type 0} where
   pub times-push : (x : ℕ) (list : List (ℕ × E)) (r : ℕ × E) → times x (list ++ r ∷ []) ≡ times x list + one_if_same r.0 x
   times-push x list r = omega (arith, total-append (λ (p : ℕ × E). one_if_same p.0 x) list (r ∷ []))
@@ -108,6 +112,15 @@ module _ {E : Type 0} where
 
   pub sounds_longer : (history more : List E) (lists : List (List (ℕ × E))) → Each (IsSound history) lists → Each (IsSound (history ++ more)) lists
   sounds_longer history more lists sound = Each-map (IsSound history) (IsSound (history ++ more)) (λ list s. (stands_longer history more list s.0, s.1)) lists sound
+
+  -- a beginning of a history is one of a longer one, and the history of itself
+  pub early_longer : (history more : List E) (sights : List (List E)) → Each (IsBeginningOf history) sights → Each (IsBeginningOf (history ++ more)) sights
+  early_longer history more sights early =
+      Each-map (IsBeginningOf history) (IsBeginningOf (history ++ more)) (λ sight b. (b.0 ++ more, ap (λ l. l ++ more) b.1 ∙ append_assoc sight b.0 more)) sights early
+
+  pub early_push : (history : List E) (sights : List (List E)) (sight : List E) → sight ≡ history → Each (IsBeginningOf history) sights → Each (IsBeginningOf history) (sights ++ sight ∷ [])
+  early_push history sights sight is early =
+      Each-append (IsBeginningOf history) sights (sight ∷ []) early (([], sym is ∙ sym (append_empty sight)), tt)
 
   pub sound_push : (history : List E) (entry : E) (list : List (ℕ × E)) (n : ℕ) → n ≡ length history → IsSound history list → IsSound (history ++ entry ∷ []) (list ++ (n, entry) ∷ [])
   sound_push history entry list n is sound =

@@ -35,6 +35,8 @@ pub record PassView (E : Type 0) : Type 0 where
   pub keeper : ℕ
   -- what it was told, each with its number in the history
   pub receipts : List (ℕ × E)
+  -- the history as it was each time that the pass looked at it without adding to it
+  pub sights : List (List E)
 
 module _ {E : Type 0} where
   -- a keeper with no entry and no pass
@@ -51,16 +53,29 @@ module _ {E : Type 0} where
 
   -- a pass of the keeper with no receipt
   abbrev pub new_pass : ℕ → PassView E
-  new_pass keeper = record { keeper = keeper; receipts = [] }
+  new_pass keeper = record { keeper = keeper; receipts = []; sights = [] }
 
   -- the pass with a receipt more
   abbrev pub with_receipt : PassView E → ℕ × E → PassView E
   with_receipt pass receipt = record pass { receipts = pass.receipts ++ receipt ∷ [] }
 
+  -- the pass with a sight more
+  abbrev pub with_sight : PassView E → List E → PassView E
+  with_sight pass sight = record pass { sights = pass.sights ++ sight ∷ [] }
+
   -- the passes' lists of receipts
   abbrev pub receipts_of : List (PassView E) → List (List (ℕ × E))
   receipts_of [] = []
   receipts_of (pass ∷ passes) = pass.receipts ∷ receipts_of passes
+
+  -- the sights of all passes
+  abbrev pub sights_of : List (PassView E) → List (List E)
+  sights_of [] = []
+  sights_of (pass ∷ passes) = pass.sights ++ sights_of passes
+
+  -- the history begins so
+  abbrev pub IsBeginningOf : List E → List E → Type 0
+  IsBeginningOf history sight = (later : List E) × (history ≡ sight ++ later)
 
   -- the keeper of this number gave out each of the passes
   abbrev pub AreOf : ℕ → List (PassView E) → Type 0

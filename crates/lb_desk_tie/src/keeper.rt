@@ -1,5 +1,5 @@
 ghost use Rattle.std.specs.Prelude.{◌≡◌, ◌+◌, ◌^◌, ◌<◌, ◌≤◌, true, nat_lt, [], ◌∷◌, ◌++◌, length, vec_len};
-ghost use Rattle.lb_desk_tie.specs.Receipts.{KeeperView, PassView, IsSound, new_keeper, with_entry, with_pass, new_pass, with_receipt, receipts_of, AreOf, Shares};
+ghost use Rattle.lb_desk_tie.specs.Receipts.{KeeperView, PassView, Each, IsSound, IsBeginningOf, new_keeper, with_entry, with_pass, new_pass, with_receipt, with_sight, receipts_of, sights_of, AreOf, Shares};
 ghost use Rattle.lb_desk_tie.specs.Rule.{keeper_view};
 
 use crate::pass::Pass;
@@ -34,7 +34,7 @@ impl<E, B: Tables> Model for Keeper<E, B> {
     ghost invariant = { λ k. (k.word.shared.table_id ≡ B.table_of k.number)
         × (k.word.shared.table_id.words ≡ 1)
         × (k.seat.table_id ≡ k.word.shared.table_id)
-        × (k.seat.me ≡ (keeper_view k.seat.me.0.history k.seat.me.0.passes [], []))
+        × (k.seat.me ≡ (keeper_view k.seat.me.0.history k.seat.me.0.passes [] [], []))
         × (k.out ≤ k.seat.me.0.passes)
         × (k.out < 2 ^ 64 → k.out ≡ k.seat.me.0.passes)
         × (k.count ≡ length k.seat.me.0.history) };
@@ -45,7 +45,7 @@ impl<E: Drop, B: Tables> Keeper<E, B> {
         requires table { word.shared.table_id ≡ B.table_of number }
         requires one_word { word.shared.table_id.words ≡ 1 }
         requires seat { seat.table_id ≡ word.shared.table_id }
-        requires first { seat.me ≡ (keeper_view [] 0 [], []) }
+        requires first { seat.me ≡ (keeper_view [] 0 [] [], []) }
         ensures { result ≡ new_keeper number }
     {
         Keeper {
@@ -105,24 +105,25 @@ impl<E: Drop, B: Tables> Keeper<E, B> {
         number
     }
 
-    /// Changes nothing: what it says is that the receipts of the pass are in the history as it is now.
-    pub fn confirm(&mut self, pass: &mut Pass<E, B>)
+    /// The pass gets a sight of the history as it is now, in which all its receipts are. At run time nothing changes.
+    pub fn see(&mut self, pass: &mut Pass<E, B>)
         requires { pass.old.keeper ≡ self.old.number }
         ensures keeper { self.new ≡ self.old }
-        ensures pass { pass.new ≡ pass.old }
+        ensures pass { pass.new ≡ with_sight pass.old self.old.history }
         ensures sound { IsSound self.old.history pass.old.receipts }
     {
-        pass.confirm(&self.word, &mut self.seat);
+        pass.see(&self.word, &mut self.seat);
     }
 
-    /// Takes all passes back. Their receipts share out the history; and it answers that in each pass a later call has a
-    /// greater number. It costs a few machine instructions a pass.
+    /// Takes all passes back. Their receipts share out the history, and each of their sights is a beginning of it. It answers that in
+    /// each pass a later call has a greater number. It costs a few machine instructions a pass.
     pub fn settle(self, mut passes: Vec<Pass<E, B>>) -> bool
         requires own { AreOf self.number passes.items }
         requires all { self.passes ≤ vec_len passes }
         ensures rising { result ≡ true }
         ensures passes { vec_len passes ≡ self.passes }
         ensures share { Shares self.history (receipts_of passes.items) }
+        ensures sights { Each (IsBeginningOf self.history) (sights_of passes.items) }
     {
         let Keeper {
             number: _,

@@ -2,12 +2,12 @@
 //! in one history, each at its own number.
 //!
 //! A `Keeper` lies beside a journal, under one lock, and knows the whole history as ghost data. Each caller has a `Pass`,
-//! which keeps the receipts of its calls. `Keeper::settle` takes all passes back, and shows that their receipts share
-//! out the history.
+//! which keeps the receipts of its calls, and a sight of the history for each look at it. `Keeper::settle` takes all passes back, and shows
+//! that their receipts share out the history, and that each sight is a beginning of it.
 //!
 //! Promised: `Keeper::record` adds the entry to the history and its receipt to the pass, whose receipts are all in the history
-//! before it (`sound`), and `Keeper::settle`'s `share`. No history, entry or receipt exists at run time. Start at `Keeper`; the
-//! words are in `specs/Receipts.antt`. Private to `lb_desk_shared`, the desk of many threads.
+//! before it (`sound`); `Keeper::see` gives the pass a sight of it; `Keeper::settle`: `share`, `sights`. No history, entry, receipt or
+//! sight exists at run time. Start at `Keeper`; the words are in `specs/Receipts.antt`.
 #![tactic(auto)]
 
 mod keeper;

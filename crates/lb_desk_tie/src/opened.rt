@@ -25,7 +25,7 @@ impl<E> Model for Opened<E> {
 
     ghost invariant = { λ o. (o.word.shared.table_id.words ≡ 1)
         × (o.seat.table_id ≡ o.word.shared.table_id)
-        × (o.seat.me ≡ (keeper_view [] 0 [], [])) };
+        × (o.seat.me ≡ (keeper_view [] 0 [] [], [])) };
 }
 
 impl<E: Drop> Opened<E> {

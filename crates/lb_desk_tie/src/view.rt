@@ -5,13 +5,14 @@ use std::collections::LinkedList;
 
 /// What a seat at the table knows. No value of it is made, so its numbers have no limit.
 ///
-/// The keeper knows the history and how many passes there are, and the lists of receipts that it has in hand. A pass knows
-/// one list, its own.
+/// The keeper knows the history and how many passes there are, and the lists of receipts and the sights that it has in hand. A pass
+/// knows one list and the sights of its own.
 pub struct View<E> {
     pub keeps: bool,
     pub history: LinkedList<E>,
     pub passes: u64,
     pub lists: LinkedList<LinkedList<(u64, E)>>,
+    pub sights: LinkedList<LinkedList<E>>,
 }
 
 /// The word is the length of the history.
@@ -23,7 +24,7 @@ impl<E> TableRule<E, View<E>, ()> for Law {
 
     ghost holds = { λ _ state. Kept state };
 
-    ghost first = { λ _. keeper_view [] 0 [] };
+    ghost first = { λ _. keeper_view [] 0 [] [] };
 }
 
 /// One pass more.
@@ -35,10 +36,10 @@ impl<E> Split<View<E>> for Admit {
 
     ghost left = { one_pass_more };
 
-    ghost right = { λ _. pass_view [] };
+    ghost right = { λ _. pass_view [] [] };
 }
 
-/// The list of a pass goes into the keeper's hand, and back.
+/// The list and the sights of a pass go into the keeper's hand, and back.
 pub(crate) struct Hand;
 
 impl<E> Join<View<E>> for Hand {
@@ -64,6 +65,15 @@ impl<E> Play<E, View<E>> for Count {
     ghost use Rattle.lb_desk_tie.specs.Rule.{Counts};
 
     ghost then = { Counts };
+}
+
+/// The pass in hand sees the history as it is.
+pub(crate) struct See;
+
+impl<E> Play<E, View<E>> for See {
+    ghost use Rattle.lb_desk_tie.specs.Rule.{Sights};
+
+    ghost then = { Sights };
 }
 
 /// The keeper looks at the history with the lists that it has in hand.

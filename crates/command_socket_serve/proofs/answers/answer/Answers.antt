@@ -17,7 +17,7 @@ carry_out-requires-clause-names g c =
 
 pub returns-in-Err-clause-answers : goal.returns-in-Err-clause-answers
 returns-in-Err-clause-answers g c =
-    let seen = desk_seen g.S.Mover.entries g.S.Mover.planned_now g.S.Mover.backend in
+    let seen = desk_seen g.S.Mover.entries g.S.Mover.planned_now g.S.Mover.backend g.S.Steer.sights in
     let desks = c.args.desks.now in
     let found : Err c.in-Err.fault ≡ looked_up c.args.console.now.config c.args.said.now = rw c.config.ensures at c.in-Err.ensures in
     subst (λ (said : Result SocketResolved CommandFault). Does (Answers seen c.args.console.now said desks desks)

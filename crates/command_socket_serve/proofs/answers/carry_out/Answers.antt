@@ -11,7 +11,7 @@ use Rattle.command_socket_serve.proofs.answers.carry_out.Goals as goal
 
 pub returns-in-Asked-clause-carries_out : goal.returns-in-Asked-clause-carries_out
 returns-in-Asked-clause-carries_out g c =
-    let seen = desk_seen g.S.Mover.entries g.S.Mover.planned_now g.S.Mover.backend in
+    let seen = desk_seen g.S.Mover.entries g.S.Mover.planned_now g.S.Mover.backend g.S.Steer.sights in
     let desks = c.args.desks.now in
     let place = c.in-Asked.place in
     let names = c.args.console.now.names in

@@ -13,7 +13,7 @@ use Rattle.command_socket_serve.proofs.answers.carry_out_plain.Goals as goal
 
 pub returns-in-Plan-clause-carries_out : goal.returns-in-Plan-clause-carries_out
 returns-in-Plan-clause-carries_out g c =
-    let seen = desk_seen g.S.Mover.entries g.S.Mover.planned_now g.S.Mover.backend in
+    let seen = desk_seen g.S.Mover.entries g.S.Mover.planned_now g.S.Mover.backend g.S.Steer.sights in
     let desks = c.args.desks.now in
     let place = c.in-Plan.place in
     let old = get_or desks place c.index-desks-place-in-Plan.result in
@@ -32,7 +32,7 @@ returns-in-Plan-clause-carries_out g c =
 
 pub returns-in-Show-clause-carries_out : goal.returns-in-Show-clause-carries_out
 returns-in-Show-clause-carries_out g c =
-    let seen = desk_seen g.S.Mover.entries g.S.Mover.planned_now g.S.Mover.backend in
+    let seen = desk_seen g.S.Mover.entries g.S.Mover.planned_now g.S.Mover.backend g.S.Steer.sights in
     let desks = c.args.desks.now in
     let place = c.in-Show.place in
     let names = c.args.console.now.names in
@@ -59,7 +59,7 @@ returns-in-Show-clause-carries_out g c =
 
 pub returns-in-Stop-clause-carries_out : goal.returns-in-Stop-clause-carries_out
 returns-in-Stop-clause-carries_out g c =
-    let seen = desk_seen g.S.Mover.entries g.S.Mover.planned_now g.S.Mover.backend in
+    let seen = desk_seen g.S.Mover.entries g.S.Mover.planned_now g.S.Mover.backend g.S.Steer.sights in
     let desks = c.args.desks.now in
     subst (λ (command : Resolved). Does (CarriesOutPlain seen c.args.console.now command desks desks)
     (g.T.Told.told c.args.told.now) (g.T.Told.told c.args.told.now) c.args.out.now c.args.sent c.args.out.now c.args.sent) (sym c.in-Stop.is)

@@ -14,6 +14,7 @@ returns-in-Err g c = record {
     entries = c.in-Err.ensures.entries;
     planned_now = c.in-Err.ensures.planned_now;
     backend = c.in-Err.ensures.backend;
+    sights = c.in-Err.ensures.sights;
     text = refl;
     changed = refl;
   };
@@ -31,6 +32,7 @@ returns-then-is_done g c =
         entries = c.in-Ok.ensures.entries;
         planned_now = c.in-Ok.ensures.planned_now;
         backend = c.in-Ok.ensures.backend;
+        sights = c.in-Ok.ensures.sights;
         text = rw done refl;
         changed = rw done refl;
       };
@@ -49,6 +51,7 @@ returns g c =
         entries = c.in-Ok.ensures.entries;
         planned_now = c.in-Ok.ensures.planned_now;
         backend = c.in-Ok.ensures.backend;
+        sights = c.in-Ok.ensures.sights;
         text = refl;
         changed = rw other refl;
       };

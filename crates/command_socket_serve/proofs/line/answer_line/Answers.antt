@@ -26,5 +26,5 @@ answer_all-requires g c = sym (length-map c.args.desks.now g.S.Mover.backend) âˆ
 pub returns-clause-backends : goal.returns-clause-backends
 returns-clause-backends g c =
     let answered = c.answer_all.ensures.answers in
-    all_stay (desk_seen g.S.Mover.entries g.S.Mover.planned_now g.S.Mover.backend) c.args.console.now _ c.args.desks.now c.answer_all.new.desks
+    all_stay (desk_seen g.S.Mover.entries g.S.Mover.planned_now g.S.Mover.backend g.S.Steer.sights) c.args.console.now _ c.args.desks.now c.answer_all.new.desks
     answered.outcome answered.is

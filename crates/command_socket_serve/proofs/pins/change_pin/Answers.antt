@@ -12,6 +12,7 @@ returns-in-Err g c = record {
     adds = c.in-Err.ensures.entries;
     planned_now = c.in-Err.ensures.planned_now;
     backend = c.in-Err.ensures.backend;
+    sights = c.in-Err.ensures.sights;
     text_is = refl;
   };
   prints = c.print_refused.ensures;
@@ -27,6 +28,7 @@ returns-then-is_changed g c =
         adds = c.in-Ok.ensures.entries;
         planned_now = c.in-Ok.ensures.planned_now;
         backend = c.in-Ok.ensures.backend;
+        sights = c.in-Ok.ensures.sights;
         text_is = rw changed refl;
       };
       prints = prints_none c.args.out.now c.args.sent;
@@ -42,6 +44,7 @@ returns g c =
         adds = c.in-Ok.ensures.entries;
         planned_now = c.in-Ok.ensures.planned_now;
         backend = c.in-Ok.ensures.backend;
+        sights = c.in-Ok.ensures.sights;
         text_is = refl;
       };
       prints = rw (other, ← c.server_of.ensures) c.print_reply.ensures;

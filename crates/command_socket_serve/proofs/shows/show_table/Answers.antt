@@ -2,19 +2,18 @@ use Rattle.std.proofs.Common.{inl, refl}
 use Rattle.lb_answers.specs.Answers.{answer_text}
 use Rattle.lb_answers.specs.Tables.{table_text}
 use Rattle.command_socket_serve.specs.Desks.{desk_seen}
-use Rattle.command_socket_serve.proofs.Showing.{same_desk}
 use Rattle.command_socket_serve.proofs.shows.show_table.Goals as goal
 
 pub returns-in-Ok : goal.returns-in-Ok
 unfolding answer_text
 returns-in-Ok g c =
-    let seen = desk_seen g.S.Mover.entries g.S.Mover.planned_now g.S.Mover.backend in
+    let seen = desk_seen g.S.Mover.entries g.S.Mover.planned_now g.S.Mover.backend g.S.Steer.sights in
     let named = c.args.named.now in
     record {
       text = table_text named.name named.servers.now named.table c.deref.result.now;
       is = record {
         shown = inl (c.deref.result.now, rw c.deref.ensures.value c.in-Ok.ensures.pins, refl);
-        kept = same_desk (seen c.args.desk.now) (seen c.rows.new.self) c.in-Ok.ensures.entries c.in-Ok.ensures.planned_now c.in-Ok.ensures.backend;
+        kept = record { entries = c.in-Ok.ensures.entries; planned_now = c.in-Ok.ensures.planned_now; backend = c.in-Ok.ensures.backend; sights = c.in-Ok.ensures.sights };
       };
       prints = c.print.ensures;
     }

@@ -65,7 +65,7 @@ loop-place-preserved g c =
       backend = named;
       pins =
           subst (λ (ps : List TablePin). ArePinsAfter (backend seat) (entries seat) ps) (sym c.new.ensures.pins)
-          c.in_ok-pins.ensures.pins;
+          (c.in_ok-pins.ensures.pins.0, c.in_ok-pins.ensures.pins.2);
     } in
     record {
       within = omega (arith, c.loop-place-test.true);

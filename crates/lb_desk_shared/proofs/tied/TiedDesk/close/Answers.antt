@@ -13,4 +13,4 @@ returns-clause-closes g c =
     let none : open_connections p.desk.shown ≡ 0 = ap (λ (t : TiedView). open_connections t.desk.shown) c.self.view_is ∙ none_are_open c.args.self (vec_len c.args.passes) c.requires.may in
     rw (← c.self.view_is, c.into_journal.ensures)
     (closes_of (g.B.Naming.opening p.keeper.number) p.keeper.history p.desk c.args.passes.items c.settle.result
-    c.self.invariant.0 c.stands_at_a_log.ensures.headline c.settle.ensures.share none c.settle.ensures.rising)
+    c.self.invariant.0 c.stands_at_a_log.ensures.headline c.settle.ensures.share c.settle.ensures.sights none c.settle.ensures.rising)
