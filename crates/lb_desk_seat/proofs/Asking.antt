@@ -1,5 +1,6 @@
 -- What calls add to a seat's entries.
-use Rattle.std.proofs.Common.{◌≡◌, ℕ, List, [], ◌∷◌, ◌++◌, Result, Ok, Err, IfOk, OnErr, ⊤, true, refl, sym, ap, ◌∙◌, append-nil, append_assoc}
+use Rattle.std.proofs.Common.{◌≡◌, ℕ, List, [], ◌∷◌, ◌++◌, Result, Ok, Err, IfOk, OnErr, true, refl, sym, ap, ◌∙◌, append-nil, append_assoc}
+use Rattle.std.specs.Prelude.{⊤}
 use mathlib.Core.List.{map-append}
 use Rattle.pin_set.specs.declared.totals.Score.{Score}
 use Rattle.lb_desk_model.specs.declared.entry.Entry.{Entry}

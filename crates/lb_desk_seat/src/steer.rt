@@ -58,13 +58,11 @@ impl<R: Wait, S: BuildHasher, B: Naming> Steer<R> for Seat<'_, S, B> {
         answer
     }
 
-    #[tactic(auto, using(crate::proofs::Copying::pins_after))]
     fn rows(&mut self, rt: &R, alloc: Global) -> Result<Vec<TablePin>, AllocError> {
         let pins = self.desk.rows(rt, &mut self.pass, alloc)?;
         Ok(pins)
     }
 
-    #[tactic(auto, using(crate::proofs::Copying::journal_after))]
     fn journal(&mut self, rt: &R, alloc: Global) -> Result<JournalCopy, AllocError> {
         let copy = self.desk.entries(rt, &mut self.pass, alloc)?;
         Ok(JournalCopy {

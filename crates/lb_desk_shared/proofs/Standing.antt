@@ -1,5 +1,5 @@
 -- The desk stands at the keeper's history, behind each call.
-use Rattle.std.proofs.Common.{◌≡◌, ℕ, ◌+◌, Bool, true, false, nat_lt, List, [], ◌∷◌, ◌++◌, length, Option, Some, None, if◌then◌else◌, refl, sym, ap, ◌∙◌, subst, arith, length-append}
+use Rattle.std.proofs.Common.{◌≡◌, ℕ, ◌+◌, Bool, true, false, nat_lt, List, [], ◌∷◌, ◌++◌, length, Option, Some, None, Result, Err, if◌then◌else◌, refl, sym, ap, ◌∙◌, subst, arith, length-append}
 use Rattle.std.proofs.lemmas.Bool.Decides.{nat_tests}
 use Rattle.std.specs.Option.{unwrap_or}
 use Rattle.lb_desk_model.specs.declared.entry.Entry.{Entry}
@@ -15,15 +15,22 @@ use Rattle.lb_desk_step.specs.Desk.{DeskView, KeepsHeadline, StandsAt, Takes}
 use Rattle.lb_desk_step.specs.Planning.{TakesPlan}
 use Rattle.lb_desk_step.proofs.NeverBad.{none_is_bad}
 use Rattle.lb_desk_tail.specs.Tail.{TailView}
-use Rattle.lb_desk_tie.specs.Receipts.{Each, IsBeginningOf, IsSound, PassView, Shares, receipts_of, sights_of, with_receipt}
+use Rattle.lb_desk_tie.specs.Receipts.{Each, IsBeginningOf, IsSound, PassView, Shares, receipts_of, sights_of, with_receipt, with_sight}
 use Rattle.lb_desk_shared.specs.declared.closing.CloseFault.{CloseFault}
 use Rattle.lb_desk_shared.specs.declared.closing.CloseFault.TheVariants.{PassesOut, SlotsOut}
 use Rattle.lb_desk_shared.specs.Calls.{AddsPlan, IsStepAt}
 use Rattle.lb_desk_shared.specs.Closing.{Closes, fault_of}
-use Rattle.lb_desk_shared.specs.Desks.{IsReached, TiedView}
+use Rattle.lb_desk_shared.specs.Desks.{IsReached, Sees, SeesDesk, TiedView}
 
 pub some_same : {A : Type 0} (x y : A) → Some x ≡ Some y → x ≡ y
 some_same x y is = ap (λ o. unwrap_or o x) is
+
+err_is : {A E : Type 0} (x y : E) → ◌≡◌ {A = Result A E} (Err x) (Err y) → x ≡ y
+err_is x y is = cc
+
+-- an error is the same of another result
+pub same_err : {A B E : Type 0} (x y : E) → ◌≡◌ {A = Result A E} (Err x) (Err y) → ◌≡◌ {A = Result B E} (Err x) (Err y)
+same_err x y is = ap Err (err_is x y is)
 
 -- the event is the next step of the history that the desk stands at
 pub is_step : (backend : BackendParts) (history : List Entry) (receipts : List (ℕ × Entry)) (old new : DeskView) (number : ℕ) (event : Event) (reply : Reply)
@@ -46,6 +53,21 @@ is_step backend history receipts old new number event reply at sound takes is =
 pub reached_now : (backend : BackendParts) (history : List Entry) (receipts : List (ℕ × Entry)) (desk : DeskView)
     → StandsAt backend history desk → IsSound history receipts → IsReached backend receipts desk
 reached_now backend history receipts desk at sound = record { history = history; stands = at; stand = sound.0; rise = sound.1 }
+
+-- a sight of the history is one of the desk at its end
+pub sees_now : (backend : BackendParts) (history : List Entry) (old new : PassView Entry) (desk : DeskView)
+    → StandsAt backend history desk → IsSound history old.receipts → new ≡ with_sight old history → SeesDesk backend old desk new
+unfolding reached_now
+sees_now backend history old new desk at sound saw = record {
+  reached = reached_now backend history old.receipts desk at sound;
+  sight = saw;
+  keeper = ap (λ (p : PassView Entry). p.keeper) saw;
+}
+
+-- the desk of a number is that of the same number
+pub sees_as : (opening : ℕ → BackendParts) (n m : ℕ) (old new : PassView Entry) (Is : DeskView → Type 0) → n ≡ m
+    → Sees (opening n) old Is new → Sees (opening m) old Is new
+sees_as opening n m old new Is same sees = subst (λ (k : ℕ). Sees (opening k) old Is new) same sees
 
 -- an event leaves the journal its size
 pub same_size : (old new : DeskView) (event : Event) (reply : Reply) → Takes old event reply new → new.journal.capacity ≡ old.journal.capacity

@@ -2,7 +2,7 @@ use Rattle.std.proofs.Common.{◌≡◌, length, sym, ap, ◌∙◌, subst}
 use Rattle.lb_desk_model.specs.declared.entry.Entry.{Entry}
 use Rattle.lb_desk_step.specs.Desk.{StandsAt}
 use Rattle.lb_desk_tie.specs.Receipts.{IsSound, KeeperView, with_entry}
-use Rattle.lb_desk_shared.proofs.Standing.{adds_plan, same_size_by_plan, stands_by_plan}
+use Rattle.lb_desk_shared.proofs.Standing.{adds_plan, same_size_by_plan, sees_now, stands_by_plan}
 use Rattle.lb_desk_shared.proofs.tied.TiedDesk.plan_now.Goals as goal
 
 pub invariant_of-self-2 : goal.invariant_of-self-2
@@ -32,3 +32,15 @@ returns-clause-plan g c =
     rw (← c.self.view_is) (adds_plan (g.B.Naming.opening p.keeper.number) p.keeper.history c.args.pass.now c.record.new.pass c.record-2.new.pass
     p.desk c.advance_by_plan.new.self taken c.record.result c.record-2.result c.self.invariant.0 c.in-Ok.ensures.takes
     c.record.ensures.number two c.record.ensures.sound c.record.ensures.pass still c.record-2.ensures.pass)
+
+pub returns-in-Err-clause-err : goal.returns-in-Err-clause-err
+returns-in-Err-clause-err g c =
+    let p = c.self.inside in
+    let sees = sees_now (g.B.Naming.opening p.keeper.number) p.keeper.history c.args.pass.now c.see.new.pass p.desk c.self.invariant.0 c.see.ensures.sound c.see.ensures.pass in
+    rw (← c.self.view_is) (p.desk, sees, tt)
+
+pub returns-in-Err-clause-worn_at : goal.returns-in-Err-clause-worn_at
+returns-in-Err-clause-worn_at g c worn =
+    let p = c.self.inside in
+    let sees = sees_now (g.B.Naming.opening p.keeper.number) p.keeper.history c.args.pass.now c.see.new.pass p.desk c.self.invariant.0 c.see.ensures.sound c.see.ensures.pass in
+    rw (← c.self.view_is) (p.desk, sees, c.in-Err.ensures.worn.0 worn)

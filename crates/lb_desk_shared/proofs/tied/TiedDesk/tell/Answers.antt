@@ -4,7 +4,7 @@ use Rattle.lb_desk_ports.specs.Calls.{entry}
 use Rattle.lb_desk_step.specs.Desk.{StandsAt}
 use Rattle.lb_desk_tail.specs.Tail.{TailView, leaving}
 use Rattle.lb_desk_tie.specs.Receipts.{KeeperView, with_entry}
-use Rattle.lb_desk_shared.proofs.Standing.{is_step, same_size, some_same}
+use Rattle.lb_desk_shared.proofs.Standing.{is_step, same_err, same_size, sees_now, some_same}
 use Rattle.lb_desk_shared.proofs.tied.TiedDesk.tell.Goals as goal
 
 pub invariant_of-self-2 : goal.invariant_of-self-2
@@ -28,3 +28,15 @@ returns-clause-step g c =
     rw (← c.self.view_is) (is_step (g.B.Naming.opening p.keeper.number) p.keeper.history c.args.pass.now.receipts p.desk c.advance.new.self
     c.record-number.result c.args.event c.in-Ok.taken.reply
     c.self.invariant.0 c.record-number.ensures.sound c.in-Ok.ensures.takes c.record-number.ensures.number)
+
+pub returns-in-Err-clause-err : goal.returns-in-Err-clause-err
+returns-in-Err-clause-err g c =
+    let p = c.self.inside in
+    let sees = sees_now (g.B.Naming.opening p.keeper.number) p.keeper.history c.args.pass.now c.see.new.pass p.desk c.self.invariant.0 c.see.ensures.sound c.see.ensures.pass in
+    rw (← c.self.view_is) (p.desk, sees, tt)
+
+pub returns-in-Err-clause-worn_at : goal.returns-in-Err-clause-worn_at
+returns-in-Err-clause-worn_at g c worn =
+    let p = c.self.inside in
+    let sees = sees_now (g.B.Naming.opening p.keeper.number) p.keeper.history c.args.pass.now c.see.new.pass p.desk c.self.invariant.0 c.see.ensures.sound c.see.ensures.pass in
+    rw (← c.self.view_is) (p.desk, sees, c.in-Err.ensures.worn.0 (same_err _ _ worn))
