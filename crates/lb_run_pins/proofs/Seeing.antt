@@ -1,43 +1,62 @@
--- Seats as they are seen stay so while tables are copied.
-use Rattle.std.proofs.Common.{◌≡◌, ◌∙◌, ℕ, zero, suc, Some, List, [], ◌∷◌, length, map, refl, sym, ap}
+-- Each seat is asked once for the pins of its desk, and stays at it.
+use Rattle.std.proofs.Common.{◌≡◌, ◌≢◌, ◌∙◌, ◌<◌, ℕ, zero, suc, Some, List, [], ◌∷◌, length, map, refl, sym, ap, arith}
+use Rattle.std.specs.Option.{option_map}
 use Rattle.std.specs.Prelude.{slice_get, slice_set}
 use Rattle.std.proofs.lemmas.List.{length-map}
-use Rattle.std.proofs.lemmas.Option.{same_Some}
+use Rattle.std.proofs.lemmas.Option.{same_Some, slice_get-map}
+use Rattle.lb_config.specs.ConfigViews.{BackendView}
 use Rattle.lb_desk_model.specs.declared.entry.Entry.{Entry}
 use Rattle.lb_desk_model.specs.Backends.{OpenedBackend}
-use Rattle.lb_run_pins.specs.Copies.{SeatSeen, seat_seen}
+use Rattle.lb_run_pins.specs.Copies.{IsCopyAt, SeatSeen, seat_seen}
+use Rattle.lb_run_pins.specs.Saved.{TableView}
 
-module _ {S : Type 0} (backend : S → OpenedBackend) (entries : S → List Entry) where
-  -- a seat that is seen as before takes its place again
-  pub set_seen : (seats : List S) (place : ℕ) (old new : S) → slice_get seats place ≡ Some old → seat_seen backend entries new ≡ seat_seen backend entries old
-      → map (seat_seen backend entries) (slice_set seats place new) ≡ map (seat_seen backend entries) seats
-  set_seen [] place old new there same = refl
-  set_seen (s ∷ ss) zero old new there same =
-      ap (λ (x : SeatSeen). x ∷ map (seat_seen backend entries) ss) (same ∙ ap (seat_seen backend entries) (sym (same_Some s old there)))
-  set_seen (s ∷ ss) (suc place) old new there same =
-      ap (λ (xs : List SeatSeen). seat_seen backend entries s ∷ xs) (set_seen ss place old new there same)
+module _ {S : Type 0} where
+  set_here : (seats : List S) (place : ℕ) (new : S) → place < length seats → slice_get (slice_set seats place new) place ≡ Some new
+  set_here [] place new within = absurd (omega arith)
+  set_here (s ∷ ss) zero new within = refl
+  set_here (s ∷ ss) (suc place) new within = set_here ss place new (omega arith)
 
-  backends_seen : (seats : List S) → map (λ (s : SeatSeen). s.backend) (map (seat_seen backend entries) seats) ≡ map backend seats
-  backends_seen [] = refl
-  backends_seen (s ∷ ss) = ap (λ (bs : List OpenedBackend). backend s ∷ bs) (backends_seen ss)
+  -- the others stay as they are
+  pub set_elsewhere : (seats : List S) (place other : ℕ) (new : S) → other ≢ place → slice_get (slice_set seats place new) other ≡ slice_get seats other
+  set_elsewhere [] place other new apart = refl
+  set_elsewhere (s ∷ ss) zero zero new apart = absurd (apart refl)
+  set_elsewhere (s ∷ ss) zero (suc other) new apart = refl
+  set_elsewhere (s ∷ ss) (suc place) zero new apart = refl
+  set_elsewhere (s ∷ ss) (suc place) (suc other) new apart = set_elsewhere ss place other new (λ same. apart (ap suc same))
 
-  -- seats that are seen as before are at the same desks
-  pub same_desks : (seats used : List S) → map (seat_seen backend entries) used ≡ map (seat_seen backend entries) seats → map backend used ≡ map backend seats
-  same_desks seats used same =
-      sym (backends_seen used) ∙ ap (map (λ (s : SeatSeen). s.backend)) same ∙ backends_seen seats
+  module _ (backend : S → OpenedBackend) where
+    -- a seat that stays at its desk takes its place again
+    pub desks_stay : (seats : List S) (place : ℕ) (old new : S) → slice_get seats place ≡ Some old → backend new ≡ backend old
+        → map backend (slice_set seats place new) ≡ map backend seats
+    desks_stay [] place old new there same = refl
+    desks_stay (s ∷ ss) zero old new there same =
+        ap (λ (b : OpenedBackend). b ∷ map backend ss) (same ∙ ap backend (sym (same_Some s old there)))
+    desks_stay (s ∷ ss) (suc place) old new there same = ap (λ (bs : List OpenedBackend). backend s ∷ bs) (desks_stay ss place old new there same)
 
-  -- and there are as many
-  pub as_many : (seats used : List S) → map (seat_seen backend entries) used ≡ map (seat_seen backend entries) seats → length used ≡ length (map backend seats)
-  as_many seats used same =
-      sym (length-map used (seat_seen backend entries)) ∙ ap (λ (l : List SeatSeen). length l) same ∙ length-map seats (seat_seen backend entries)
-      ∙ sym (length-map seats backend)
+    -- seats at the same desks are as many
+    pub as_many : (seats used : List S) → map backend used ≡ map backend seats → length used ≡ length (map backend seats)
+    as_many seats used same = sym (length-map used backend) ∙ ap (λ (l : List OpenedBackend). length l) same
 
-  -- after one of them was asked, and stays as it is seen
-  pub seen_as_before : (seats used : List S) (place : ℕ) (old new : S) → map (seat_seen backend entries) used ≡ map (seat_seen backend entries) seats
-      → slice_get used place ≡ Some old → backend new ≡ backend old → entries new ≡ entries old
-      → map (seat_seen backend entries) (slice_set used place new) ≡ map (seat_seen backend entries) seats
-  seen_as_before seats used place old new same there at made =
-      set_seen used place old new there
-      (ap (λ (b : OpenedBackend). record { backend = b; entries = entries new }) at
-      ∙ ap (λ (es : List Entry). record { backend = backend old; entries = es }) made)
-      ∙ same
+  module _ (backend : S → OpenedBackend) (entries : S → List Entry) (sights : S → List (List Entry)) where
+    -- as a seat that was asked is seen after that
+    pub seen_here : (seats : List S) (place : ℕ) (new : S) → place < length seats
+        → slice_get (map (seat_seen backend entries sights) (slice_set seats place new)) place ≡ Some (seat_seen backend entries sights new)
+    seen_here seats place new within =
+        slice_get-map (seat_seen backend entries sights) (slice_set seats place new) place
+        ∙ ap (option_map (seat_seen backend entries sights)) (set_here seats place new within)
+
+    -- a copy of an earlier seat is one after another seat was asked
+    pub copy_stays : (configs : List BackendView) (seats : List SeatSeen) (used : List S) (place other : ℕ) (new : S) (table : TableView) → other ≢ place
+        → IsCopyAt configs seats (map (seat_seen backend entries sights) used) other table
+        → IsCopyAt configs seats (map (seat_seen backend entries sights) (slice_set used place new)) other table
+    copy_stays configs seats used place other new table apart copy = record {
+      old = copy.old;
+      new = copy.new;
+      there = copy.there;
+      after =
+          slice_get-map (seat_seen backend entries sights) (slice_set used place new) other
+          ∙ ap (option_map (seat_seen backend entries sights)) (set_elsewhere used place other new apart)
+          ∙ sym (slice_get-map (seat_seen backend entries sights) used other) ∙ copy.after;
+      backend = copy.backend;
+      pins = copy.pins;
+    }

@@ -125,7 +125,8 @@ fn copies<'a, R: Host, D: Seating<R>, G: Drop>(
 ) -> Result<Vec<Table<'a>>, AllocError>
     requires { OpenInOrder floor.now.config.now.backends (map D.Seat.Mover.backend seats.old) }
     ensures copies { IfOk result (λ tables. AreCopies floor.now.config.now.backends
-        (map (seat_seen D.Seat.Mover.backend D.Seat.Mover.entries) seats.old) tables.items) }
+        (map (seat_seen D.Seat.Mover.backend D.Seat.Mover.entries D.Seat.Steer.sights) seats.old)
+        (map (seat_seen D.Seat.Mover.backend D.Seat.Mover.entries D.Seat.Steer.sights) seats.new) tables.items) }
     ensures seats { map D.Seat.Mover.backend seats.new ≡ map D.Seat.Mover.backend seats.old }
 {
     let backends = floor.config.backends();
