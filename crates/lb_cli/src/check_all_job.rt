@@ -11,7 +11,7 @@ use crate::check_job::Report;
 use lb_cli_ends::{JobError, whole};
 use lb_cli_faults::config_fault_line;
 use lb_config::read_config;
-use lb_config_hints::{Hint, concerns_of, hint_for};
+use lb_config_hints::{Hint, concerns_of, hint_for, push_differences};
 use lb_config_sections::{ConfigFault, LocatedFault, read_checked};
 use lb_config_words::{Line, Word, WordsFault, read_lines};
 use lb_types::Counted;
@@ -22,10 +22,20 @@ use std::io::{Read, Write};
 pub const MOST_FAULTS: usize = 100;
 
 /// A fault, with what may help.
-type Said = (LocatedFault, Option<Hint>);
+type Said<'a> = (LocatedFault, Option<Hint<'a>>);
+
+/// What is said of a valid configuration beside its report.
+#[derive(Clone, Copy, Debug, PartialEq, Eq)]
+pub enum Asides {
+    /// What is surely not meant.
+    Warnings,
+    /// The same, and what means something else to HAProxy.
+    Differences,
+}
 
 /// Reads the text of a configuration to its end. Of a valid one it writes what `check` does, and then warnings of what is surely not
-/// meant, as `  warning: backend web has no timeout server: ..`, in lines that begin with two spaces; else a line for each fault, as
+/// meant, as `  warning: backend web has no timeout server: ..`, in lines that begin with two spaces, and in further ones what means
+/// something else to HAProxy, if that is asked for; else a line for each fault, as
 /// `line 2: 22 UnknownWord`, and then how many there are, as `2 faults`. Under a fault there may be a hint, as `  did you mean timeout?`, in a
 /// line that begins with two spaces. Returns whether the configuration is valid.
 ///
@@ -36,6 +46,7 @@ type Said = (LocatedFault, Option<Hint>);
 pub fn check_all<R: Read, W: Write>(
     alloc: Global,
     file: &mut R,
+    asides: Asides,
     out: &mut Counted<W>,
 ) -> Result<bool, JobError>
     ensures valid { IfOk result (λ valid. IfSome (R.remaining file.old) (λ text. valid ≡ is_valid (checked_in text))) }
@@ -48,17 +59,17 @@ pub fn check_all<R: Read, W: Write>(
     ensures silent { OnNoAnswer result (out.new ≡ out.old) }
 {
     let text = whole(alloc, file)?;
-    full_report(alloc, &text)?.write(out)
+    full_report(alloc, &text, asides)?.write(out)
 }
 
 /// What is printed of a text if all its faults are wanted.
-fn full_report(alloc: Global, text: &[u8]) -> Result<Report, AllocError>
+fn full_report(alloc: Global, text: &[u8], asides: Asides) -> Result<Report, AllocError>
     ensures valid { IfOk result (λ report. report.is_valid ≡ is_valid (checked_in text.now)) }
     ensures text { IfOk result (λ report. IsFullReport text.now report.text.items) }
 {
     let report = Report::of(alloc, text)?;
     if report.is_valid {
-        let full = with_concerns(alloc, text, report)?;
+        let full = with_concerns(alloc, text, asides, report)?;
         return Ok(full);
     }
     let lines = lines_of(alloc, text)?;
@@ -69,24 +80,34 @@ fn full_report(alloc: Global, text: &[u8]) -> Result<Report, AllocError>
     })
 }
 
-/// The report of a valid text, with what is surely not meant.
-fn with_concerns(alloc: Global, text: &[u8], report: Report) -> Result<Report, AllocError>
+/// The report of a valid text, with what is said beside it.
+fn with_concerns(
+    alloc: Global,
+    text: &[u8],
+    asides: Asides,
+    report: Report,
+) -> Result<Report, AllocError>
     ensures valid { IfOk result (λ full. full.is_valid ≡ report.is_valid) }
     ensures text { IfOk result (λ full. (concerns : List (List ℕ)) × (full.text.items ≡ report.text.items ++ flat_map aside concerns)) }
 {
     let mut full = report;
-    let concerns = concerns_in(alloc, text)?;
+    let concerns = concerns_in(alloc, text, asides)?;
     push_concerns(&mut full.text, &concerns)?;
     Ok(full)
 }
 
-/// What is valid in a valid text and surely not meant.
-fn concerns_in(alloc: Global, text: &[u8]) -> Result<Vec<Word>, AllocError> {
-    match read_config(alloc, text) {
-        Ok(config) => concerns_of(alloc, &config),
-        Err(ConfigFault::Fault(_)) => Ok(Vec::new(alloc)),
-        Err(ConfigFault::Memory) => Err(AllocError),
+/// What is said of a valid text beside its report.
+fn concerns_in(alloc: Global, text: &[u8], asides: Asides) -> Result<Vec<Word>, AllocError> {
+    let lines = lines_of(alloc, text)?;
+    let mut concerns = match read_config(alloc, text) {
+        Ok(config) => concerns_of(alloc, &config, &lines)?,
+        Err(ConfigFault::Fault(_)) => Vec::new(alloc),
+        Err(ConfigFault::Memory) => return Err(AllocError),
+    };
+    if asides == Asides::Differences {
+        push_differences(alloc, &mut concerns, &lines)?;
     }
+    Ok(concerns)
 }
 
 /// Appends a line for each.
@@ -108,7 +129,7 @@ fn push_concern(text: &mut Vec<u8>, concern: &Word) -> Result<(), AllocError>
     Ok(())
 }
 
-/// The lines of the text, for hints. There is none if the text is too long, or not UTF-8.
+/// The lines of the text. There is none if the text is too long, or not UTF-8.
 fn lines_of(alloc: Global, text: &[u8]) -> Result<Vec<Line>, AllocError> {
     match read_lines(alloc, text) {
         Ok(lines) => Ok(lines),
@@ -118,7 +139,7 @@ fn lines_of(alloc: Global, text: &[u8]) -> Result<Vec<Line>, AllocError> {
 }
 
 /// The faults of the text with these lines, as they are found.
-fn faults_of(alloc: Global, text: &[u8], lines: &[Line]) -> Result<Vec<Said>, AllocError>
+fn faults_of<'a>(alloc: Global, text: &[u8], lines: &'a [Line]) -> Result<Vec<Said<'a>>, AllocError>
     ensures { IfOk result (λ faults. map (λ said. said.0) faults.items ≡ first_faults MOST_FAULTS text.now) }
 {
     let mut faults = Vec::new(alloc);
@@ -137,10 +158,10 @@ fn faults_of(alloc: Global, text: &[u8], lines: &[Line]) -> Result<Vec<Said>, Al
 }
 
 /// What may help with the fault, by the words of its line.
-fn hint_at(lines: &[Line], fault: &LocatedFault) -> Option<Hint> {
+fn hint_at<'a>(lines: &'a [Line], fault: &LocatedFault) -> Option<Hint<'a>> {
     match lines.iter().find(|line| line.number() == fault.line) {
-        Some(line) => hint_for(&fault.cause, line.words()),
-        None => hint_for(&fault.cause, &[]),
+        Some(line) => hint_for(&fault.cause, line.words(), lines),
+        None => hint_for(&fault.cause, &[], lines),
     }
 }
 
@@ -196,7 +217,7 @@ fn without_line(alloc: Global, text: &[u8], line: u32) -> Result<Vec<u8>, AllocE
 }
 
 /// The lines of the faults with their hints, and how many these are.
-fn faults_text(alloc: Global, faults: &[Said]) -> Result<Vec<u8>, AllocError>
+fn faults_text(alloc: Global, faults: &[Said<'_>]) -> Result<Vec<u8>, AllocError>
     ensures { IfOk result (λ text. text.items ≡ faults_text faults.now) }
 {
     let mut text = Vec::new(alloc);
@@ -206,7 +227,7 @@ fn faults_text(alloc: Global, faults: &[Said]) -> Result<Vec<u8>, AllocError>
 }
 
 /// Appends the lines of the faults to the text, each with its hint.
-fn push_faults(alloc: Global, text: &mut Vec<u8>, faults: &[Said]) -> Result<(), AllocError>
+fn push_faults(alloc: Global, text: &mut Vec<u8>, faults: &[Said<'_>]) -> Result<(), AllocError>
     ensures { OnOk result (text.new.items ≡ text.old.items ++ flat_map said_lines faults.now) }
 {
     for said in faults {
@@ -215,7 +236,7 @@ fn push_faults(alloc: Global, text: &mut Vec<u8>, faults: &[Said]) -> Result<(),
     Ok(())
 }
 
-fn push_said(alloc: Global, text: &mut Vec<u8>, said: &Said) -> Result<(), AllocError>
+fn push_said(alloc: Global, text: &mut Vec<u8>, said: &Said<'_>) -> Result<(), AllocError>
     ensures { OnOk result (text.new.items ≡ text.old.items ++ said_lines said.now) }
 {
     let line = config_fault_line(alloc, &said.0)?;
@@ -224,7 +245,7 @@ fn push_said(alloc: Global, text: &mut Vec<u8>, said: &Said) -> Result<(), Alloc
 }
 
 /// Appends the line of the hint, if there is one.
-fn push_hint(text: &mut Vec<u8>, hint: Option<Hint>) -> Result<(), AllocError>
+fn push_hint(text: &mut Vec<u8>, hint: Option<Hint<'_>>) -> Result<(), AllocError>
     ensures { OnOk result (text.new.items ≡ text.old.items ++ hint_line hint) }
 {
     let Some(hint) = hint else {

@@ -1,4 +1,4 @@
-use crate::{check, check_all};
+use crate::{Asides, check, check_all};
 use lb_cli_ends::{JobError, end, opened, whole};
 use lb_cli_format::format_file;
 use lb_cli_plans::{plan_file, tables_file, tell_version};
@@ -38,7 +38,7 @@ pub struct KeptPins<'a> {
 #[derive(Clone, Copy, Debug, PartialEq, Eq)]
 enum Wanted {
     FirstFault,
-    AllFaults,
+    AllFaults(Asides),
 }
 
 /// How often the pins are written, in milliseconds, where the words don't say.
@@ -61,7 +61,14 @@ pub fn perform<'a, R: Files, O: Write, E: Write>(
         Job::Format { file } => format_file(alloc, rt, file, out, err),
         Job::Version => tell_version(out, err),
         Job::Check { file } => check_file(alloc, rt, file, Wanted::FirstFault, out, err),
-        Job::CheckAll { file } => check_file(alloc, rt, file, Wanted::AllFaults, out, err),
+        Job::CheckAll { file } => {
+            let wanted = Wanted::AllFaults(Asides::Warnings);
+            check_file(alloc, rt, file, wanted, out, err)
+        }
+        Job::CheckHaproxy { file } => {
+            let wanted = Wanted::AllFaults(Asides::Differences);
+            check_file(alloc, rt, file, wanted, out, err)
+        }
         Job::Replay { config, script } => replay_files(alloc, rt, config, script, out, err),
         Job::Run { file } => return to_run(alloc, rt, file, None, err),
         Job::RunWithPins { file, pins, every } => match every_of(every) {
@@ -103,7 +110,7 @@ fn refuse_time<E: Write>(word: &str, err: &mut E) -> u8 {
     2
 }
 
-/// Does the job `check`, or `check --all`.
+/// Does the job `check`, `check --all` or `check --haproxy`.
 fn check_file<R: Files, O: Write, E: Write>(
     alloc: Global,
     rt: &R,
@@ -151,7 +158,7 @@ fn is_valid_config<R: Files, O: Write>(
     let mut file = opened(rt, path)?;
     match wanted {
         Wanted::FirstFault => check(alloc, &mut file, out),
-        Wanted::AllFaults => check_all(alloc, &mut file, out),
+        Wanted::AllFaults(asides) => check_all(alloc, &mut file, asides, out),
     }
 }
 

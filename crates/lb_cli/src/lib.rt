@@ -13,7 +13,7 @@ mod check_job;
 mod jobs;
 mod laws;
 
-pub use check_all_job::{MOST_FAULTS, check_all};
+pub use check_all_job::{Asides, MOST_FAULTS, check_all};
 pub use check_job::check;
 pub use jobs::{KeptPins, Performed, perform};
 pub use laws::{

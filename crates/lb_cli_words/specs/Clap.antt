@@ -29,7 +29,7 @@ abbrev pub format_app : App
 format_app = with_rule (new_app (codes "format")) file_rule
 
 abbrev pub check_app : App
-check_app = with_rule (with_rule (new_app (codes "check")) file_option_rule) (flag_rule (codes "all"))
+check_app = with_rule (with_rule (with_rule (new_app (codes "check")) file_option_rule) (flag_rule (codes "all"))) (flag_rule (codes "haproxy"))
 
 abbrev pub run_app : App
 run_app = with_rule (with_rule (with_rule (new_app (codes "run")) file_option_rule) (named_rule (codes "pins"))) (named_rule (codes "pins-every"))

@@ -5,9 +5,9 @@ use Rattle.std.specs.Option.{option_or}
 use Rattle.lb_cli_words.specs.Words.{Text, Reader, flagged, lettered, named, both, operands_of, files_with, taken_out}
 use Rattle.lb_cli_words.specs.Words.{is_help, asks_help_within, asks_help_with}
 use Rattle.lb_cli_words.specs.declared.job.Job.{Job}
-use Rattle.lb_cli_words.specs.declared.job.Job.TheVariants.{Verify, VerifyForSheet, Plan, PlanTable, Format, Check, CheckAll, Replay, Run, RunWithPins, Version}
+use Rattle.lb_cli_words.specs.declared.job.Job.TheVariants.{Verify, VerifyForSheet, Plan, PlanTable, Format, Check, CheckAll, CheckHaproxy, Replay, Run, RunWithPins, Version}
 use Rattle.lb_cli_words.specs.declared.own_option.OwnOption.{OwnOption}
-use Rattle.lb_cli_words.specs.declared.own_option.OwnOption.TheVariants.{File, Sheet, Table, All, Pins, PinsEvery}
+use Rattle.lb_cli_words.specs.declared.own_option.OwnOption.TheVariants.{File, Sheet, Table, Pins, PinsEvery}
 use Rattle.lb_cli_words.specs.RunWords.{options_in, row_of_options}
 
 -- a row of the table: a command, with its option where that makes it another one, and its files
@@ -23,6 +23,7 @@ row_of (PlanTable file) = (codes "plan --table", file.now ∷ [])
 row_of (Format file) = (codes "format", file.now ∷ [])
 row_of (Check file) = (codes "check", file.now ∷ [])
 row_of (CheckAll file) = (codes "check --all", file.now ∷ [])
+row_of (CheckHaproxy file) = (codes "check --haproxy", file.now ∷ [])
 row_of (Replay config script) = (codes "replay", config.now ∷ script.now ∷ [])
 row_of (Run file) = (codes "run", file.now ∷ [])
 row_of (RunWithPins file pins every) = (codes "run --pins", file.now ∷ pins.now ∷ unwrap_or (option_map (λ value. value.now ∷ []) every) [])
@@ -33,19 +34,17 @@ abbrev pub reader_of : OwnOption → Reader
 reader_of File = lettered 102
 reader_of Sheet = named (codes "--sheet")
 reader_of Table = flagged (codes "--table")
-reader_of All = flagged (codes "--all")
 reader_of Pins = named (codes "--pins")
 reader_of PinsEvery = named (codes "--pins-every")
 
 -- the option has a value
 abbrev pub has_value : OwnOption → Bool
 has_value Table = false
-has_value All = false
 has_value _ = true
 
--- `--all` and `-f FILE`, in either order
-abbrev pub all_and_file : Reader
-all_and_file = both (reader_of All) (reader_of File)
+-- the flag of this name and `-f FILE`, in either order
+abbrev pub flag_and_file : Text → Reader
+flag_and_file name = both (flagged name) (reader_of File)
 
 -- these files as a row of the table
 abbrev pub as_row : Text → Option (List Text) → Option Row
@@ -65,7 +64,8 @@ format_row words = as_row (codes "format") (operands_of 1 words)
 
 abbrev pub check_row : List Text → Option Row
 check_row words = option_or (as_row (codes "check") (files_with (reader_of File) 0 words))
-    (as_row (codes "check --all") (files_with all_and_file 0 words))
+    (option_or (as_row (codes "check --all") (files_with (flag_and_file (codes "--all")) 0 words))
+    (as_row (codes "check --haproxy") (files_with (flag_and_file (codes "--haproxy")) 0 words)))
 
 abbrev pub replay_row : List Text → Option Row
 replay_row words = as_row (codes "replay") (operands_of 2 words)
@@ -91,11 +91,15 @@ row_behind command words =
     else if bytes_eq command (codes "--version") then version_row words
     else None
 
--- the words behind `check` ask for help: behind none of its options, one or both
+-- the words ask for help behind the flag of this name, alone or with `-f FILE`
+abbrev pub asks_help_beside : Text → List Text → Bool
+asks_help_beside name words = asks_help_with (flagged name) 0 words || asks_help_with (flag_and_file name) 0 words
+
+-- the words behind `check` ask for help: behind none of its options, one or two
 abbrev pub check_asks_help : List Text → Bool
 check_asks_help words =
-    asks_help_within 0 words || asks_help_with (reader_of File) 0 words || asks_help_with (reader_of All) 0 words
-    || asks_help_with all_and_file 0 words
+    asks_help_within 0 words || asks_help_with (reader_of File) 0 words || asks_help_beside (codes "--all") words
+    || asks_help_beside (codes "--haproxy") words
 
 -- the words behind a command ask for help
 abbrev pub asks_help_behind : Text → List Text → Bool

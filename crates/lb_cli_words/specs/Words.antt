@@ -121,6 +121,10 @@ abbrev pub files_with : Reader → ℕ → List Text → Option (List Text)
 files_with option n words =
     option_and_then (λ given. option_map (λ files. given.0 ++ files) (operands_of n given.1)) (option words)
 
+-- the words behind an option that was read ask for help, where so many operands are due
+abbrev pub asks_help_after : ℕ → Option (List Text × List Text) → Bool
+asks_help_after n given = option_map_or (λ given. asks_help_within n given.1) given false
+
 -- the words without the option ask for help
 abbrev pub asks_help_with : Reader → ℕ → List Text → Bool
-asks_help_with option n words = option_map_or (λ given. asks_help_within n given.1) (option words) false
+asks_help_with option n words = asks_help_after n (option words)

@@ -127,7 +127,12 @@ fn check<'a>(alloc: Global) -> Result<Command<'a>, AllocError>
         "all",
         "Report all faults, at most 100, and then their number, as `2 faults`",
     );
-    with_arguments(check, config_option(alloc), all)
+    let haproxy = flag(
+        alloc,
+        "haproxy",
+        "The same, and say of each line that is taken what else it means to HAProxy",
+    );
+    with_arguments(check.arg(config_option(alloc))?, all, haproxy)
 }
 
 fn replay<'a>(alloc: Global) -> Result<Command<'a>, AllocError>

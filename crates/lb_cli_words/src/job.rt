@@ -30,6 +30,10 @@ pub enum Job<'a> {
     CheckAll {
         file: &'a str,
     },
+    /// `check --haproxy -f <file>`: the same, and say which lines mean something else to HAProxy.
+    CheckHaproxy {
+        file: &'a str,
+    },
     /// `replay <config> <script>`: replay the script at the backend of the configuration.
     Replay {
         config: &'a str,

@@ -17,8 +17,6 @@ pub(crate) enum OwnOption {
     Sheet,
     /// `--table`.
     Table,
-    /// `--all`.
-    All,
     /// `--pins PINS`, also as `--pins=PINS`.
     Pins,
     /// `--pins-every TIME`, also as `--pins-every=TIME`.
@@ -41,8 +39,7 @@ impl OwnOption {
         match self {
             OwnOption::File => file_option(words),
             OwnOption::Sheet => named_option("--sheet", words),
-            OwnOption::Table => flag("--table", words),
-            OwnOption::All => flag("--all", words),
+            OwnOption::Table => read_flag("--table", words),
             OwnOption::Pins => named_option("--pins", words),
             OwnOption::PinsEvery => named_option("--pins-every", words),
         }
@@ -69,7 +66,8 @@ fn named_option<'a>(name: &str, words: &'a [&'a str]) -> Option<Given<'a>>
     value_of(value, rest)
 }
 
-fn flag<'a>(name: &str, words: &'a [&'a str]) -> Option<Given<'a>>
+/// Reads the option of this name, which has no value, at the front of the words.
+pub(crate) fn read_flag<'a>(name: &str, words: &'a [&'a str]) -> Option<Given<'a>>
     ensures { given_of result ≡ flagged name.now (texts words.now) }
 {
     let (word, rest) = words.split_first()?;

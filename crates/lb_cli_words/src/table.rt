@@ -1,14 +1,14 @@
 //! The table of commands, as words are read by it.
 ghost use Rattle.std.specs.Prelude.{◌≡◌, ◌∷◌, [], IfSome, IsSome, option_map};
 ghost use Rattle.lb_cli_words.specs.Given.{given_of};
-ghost use Rattle.lb_cli_words.specs.Words.{asks_help_with, files_with, in_turn, texts};
-ghost use Rattle.lb_cli_words.specs.Table.{all_and_file, asks_help, asks_help_behind, check_asks_help, reader_of, row_behind, row_in, row_of};
+ghost use Rattle.lb_cli_words.specs.Words.{asks_help_after, asks_help_with, files_with, flagged, in_turn, texts};
+ghost use Rattle.lb_cli_words.specs.Table.{asks_help, asks_help_behind, asks_help_beside, check_asks_help, flag_and_file, reader_of, row_behind, row_in, row_of};
 ghost use Rattle.lb_cli_words.specs.Table.{check_row, format_row, plan_row, replay_row, run_row, verify_row, version_row};
-ghost use Rattle.lb_cli_words.specs.declared.own_option.OwnOption.TheVariants.{All, File};
+ghost use Rattle.lb_cli_words.specs.declared.own_option.OwnOption.TheVariants.{File};
 
 use crate::Job;
 use crate::operands::{asks_help_within, is_end, one_operand, two_operands};
-use crate::own_option::{Given, OwnOption};
+use crate::own_option::{Given, OwnOption, read_flag};
 use crate::run_options::RunOptions;
 use crate::word::is_help;
 
@@ -70,8 +70,11 @@ fn check<'a>(words: &'a [&'a str]) -> Option<Job<'a>>
     if let Some(file) = only_file(words) {
         return Some(Job::Check { file });
     }
-    let file = file_and_all(words)?;
-    Some(Job::CheckAll { file })
+    if let Some(file) = file_beside("--all", words) {
+        return Some(Job::CheckAll { file });
+    }
+    let file = file_beside("--haproxy", words)?;
+    Some(Job::CheckHaproxy { file })
 }
 
 /// The value of `-f`, where nothing else is in the words.
@@ -83,43 +86,43 @@ fn only_file<'a>(words: &'a [&'a str]) -> Option<&'a str>
     is_end(given.rest).then_some(file)
 }
 
-/// The value of `-f`, where `--all` is next to it, and nothing else is in the words.
-fn file_and_all<'a>(words: &'a [&'a str]) -> Option<&'a str>
-    ensures { option_map (λ file. file.now ∷ []) result ≡ files_with all_and_file 0 (texts words.now) }
+/// The value of `-f`, where the flag of this name is next to it, and nothing else is in the words.
+fn file_beside<'a>(name: &str, words: &'a [&'a str]) -> Option<&'a str>
+    ensures { option_map (λ file. file.now ∷ []) result ≡ files_with (flag_and_file name.now) 0 (texts words.now) }
 {
-    let given = all_and_file(words)?;
+    let given = flag_and_file(name, words)?;
     let file = given.value?;
     is_end(given.rest).then_some(file)
 }
 
-/// `--all` and `-f` at the front of the words, in either order.
-fn all_and_file<'a>(words: &'a [&'a str]) -> Option<Given<'a>>
-    ensures read { given_of result ≡ all_and_file (texts words.now) }
+/// The flag and `-f` at the front of the words, in either order.
+fn flag_and_file<'a>(name: &str, words: &'a [&'a str]) -> Option<Given<'a>>
+    ensures read { given_of result ≡ flag_and_file name.now (texts words.now) }
     ensures valued { IfSome result (λ given. IsSome given.value) }
 {
-    if let Some(given) = all_before_file(words) {
+    if let Some(given) = flag_before_file(name, words) {
         return Some(given);
     }
-    file_before_all(words)
+    file_before_flag(name, words)
 }
 
-fn all_before_file<'a>(words: &'a [&'a str]) -> Option<Given<'a>>
-    ensures read { given_of result ≡ in_turn (reader_of All) (reader_of File) (texts words.now) }
+fn flag_before_file<'a>(name: &str, words: &'a [&'a str]) -> Option<Given<'a>>
+    ensures read { given_of result ≡ in_turn (flagged name.now) (reader_of File) (texts words.now) }
     ensures valued { IfSome result (λ given. IsSome given.value) }
 {
-    let all = OwnOption::All.read(words)?;
-    OwnOption::File.read(all.rest)
+    let flag = read_flag(name, words)?;
+    OwnOption::File.read(flag.rest)
 }
 
-fn file_before_all<'a>(words: &'a [&'a str]) -> Option<Given<'a>>
-    ensures read { given_of result ≡ in_turn (reader_of File) (reader_of All) (texts words.now) }
+fn file_before_flag<'a>(name: &str, words: &'a [&'a str]) -> Option<Given<'a>>
+    ensures read { given_of result ≡ in_turn (reader_of File) (flagged name.now) (texts words.now) }
     ensures valued { IfSome result (λ given. IsSome given.value) }
 {
     let file = OwnOption::File.read(words)?;
-    let all = OwnOption::All.read(file.rest)?;
+    let flag = read_flag(name, file.rest)?;
     Some(Given {
         value: file.value,
-        rest: all.rest,
+        rest: flag.rest,
     })
 }
 
@@ -171,31 +174,35 @@ fn asks_help_behind(command: &str, words: &[&str]) -> bool
     }
 }
 
-/// Whether help is asked for after none, one or both of the options of `check`.
+/// Whether help is asked for after none, one or two of the options of `check`.
 fn check_asks_help(words: &[&str]) -> bool
     ensures { result ≡ check_asks_help (texts words.now) }
 {
     asks_help_within(0, words)
-        || asks_help_after(OwnOption::File, words)
-        || asks_help_after(OwnOption::All, words)
-        || asks_help_after_both(words)
+        || asks_help_after_file(words)
+        || asks_help_beside("--all", words)
+        || asks_help_beside("--haproxy", words)
 }
 
-/// Whether help is asked for after the option.
-fn asks_help_after(option: OwnOption, words: &[&str]) -> bool
-    ensures { result ≡ asks_help_with (reader_of option) 0 (texts words.now) }
+/// Whether help is asked for after `-f`.
+fn asks_help_after_file(words: &[&str]) -> bool
+    ensures { result ≡ asks_help_with (reader_of File) 0 (texts words.now) }
 {
-    match option.read(words) {
-        Some(given) => asks_help_within(0, given.rest),
-        None => false,
-    }
+    asks_help_after(OwnOption::File.read(words))
 }
 
-/// Whether help is asked for after `--all` and `-f`.
-fn asks_help_after_both(words: &[&str]) -> bool
-    ensures { result ≡ asks_help_with all_and_file 0 (texts words.now) }
+/// Whether help is asked for after the flag of this name, alone or with `-f`.
+fn asks_help_beside(name: &str, words: &[&str]) -> bool
+    ensures { result ≡ asks_help_beside name.now (texts words.now) }
 {
-    match all_and_file(words) {
+    asks_help_after(read_flag(name, words)) || asks_help_after(flag_and_file(name, words))
+}
+
+/// Whether help is asked for after options, if they were read.
+fn asks_help_after(given: Option<Given<'_>>) -> bool
+    ensures { result ≡ asks_help_after 0 (given_of given.entry) }
+{
+    match given {
         Some(given) => asks_help_within(0, given.rest),
         None => false,
     }

@@ -1,17 +1,26 @@
 //! What is valid in a configuration and surely not meant.
+use crate::names::word_at;
 use lb_config::{BackendConfig, Config, Frontend};
-use lb_config_arguments::Endpoint;
+use lb_config_arguments::{Endpoint, is};
 use lb_config_values::ServerConfig;
-use lb_config_words::Word;
+use lb_config_words::{Line, Word};
 use lb_types::Name;
 use std::alloc::{AllocError, Global};
 
-/// What is valid in the configuration and surely not meant, each as the words of a line: those of frontends first, then those of backends,
-/// in their order.
+/// What is valid in the configuration of these lines and surely not meant, each as the words of a line: what all share, then those of
+/// frontends, and then those of backends, in their order.
 ///
-/// It looks at each section, server and address once, and at each address once more for each one after it.
-pub fn concerns_of(alloc: Global, config: &Config) -> Result<Vec<Word>, AllocError> {
+/// It looks at each line, section, server and address once, and at each address once more for each one after it.
+pub fn concerns_of(
+    alloc: Global,
+    config: &Config,
+    lines: &[Line],
+) -> Result<Vec<Word>, AllocError> {
     let mut found = Vec::new(alloc);
+    if lines.iter().filter(|line| is_socket(line)).count() > 1 {
+        let words = b"warning: several lines stats socket: the last one is opened";
+        found.push(Word::new(Vec::from_slice(alloc, words)?))?;
+    }
     let mut bound = Vec::new(alloc);
     for frontend in config.frontends() {
         push_of_frontend(alloc, &mut found, config, frontend)?;
@@ -22,6 +31,11 @@ pub fn concerns_of(alloc: Global, config: &Config) -> Result<Vec<Word>, AllocErr
         push_of_table(alloc, &mut found, backend)?;
     }
     Ok(found)
+}
+
+/// Whether the line is `stats socket`.
+fn is_socket(line: &Line) -> bool {
+    is(word_at(line.words(), 0), b"stats") && is(word_at(line.words(), 1), b"socket")
 }
 
 /// Warnings of a frontend's clients.

@@ -1,15 +1,16 @@
 //! Hints by the kind of the fault, and the words of its line.
 use crate::Hint;
 use crate::known::{BALANCES, FIRST, OPTIONS, PARAMETERS, TIMEOUTS};
+use crate::names::{meant_name, word_at};
 use crate::near::meant;
 use lb_config_arguments::is;
 use lb_config_sections::Cause;
-use lb_config_words::Word;
+use lb_config_words::{Line, Word};
 
-/// What may help with a fault of a line with these words, if there is anything to say.
+/// What may help with a fault of a line with these words, in a text of these lines, if there is anything to say.
 ///
-/// It allocates nothing, and takes one walk over some twenty words.
-pub fn hint_for(cause: &Cause, words: &[Word]) -> Option<Hint> {
+/// It allocates nothing, and takes one walk over some twenty words. For a name that no line declares it walks over the lines too.
+pub fn hint_for<'a>(cause: &Cause, words: &[Word], lines: &'a [Line]) -> Option<Hint<'a>> {
     let first = word_at(words, 0);
     match cause {
         Cause::NotUtf8 => Some(Hint::Says("write the file in UTF-8")),
@@ -19,22 +20,14 @@ pub fn hint_for(cause: &Cause, words: &[Word]) -> Option<Hint> {
         Cause::BadNumber => of_number(first),
         Cause::BadName => Some(Hint::Says("a name has 1 to 64 letters, digits and - _ . :")),
         Cause::Duplicate => Some(Hint::Says("a line before this one declares the name")),
-        Cause::NoSuchName => Some(of_name(first)),
+        Cause::NoSuchName => Some(of_name(words, lines)),
         Cause::TooMany => None,
         Cause::LeftOut(word) => of_left_out(word.as_bytes(), first, word_at(words, 2)),
     }
 }
 
-/// The word at this place, or no bytes if there is none.
-fn word_at(words: &[Word], place: usize) -> &[u8] {
-    match words.get(place) {
-        Some(word) => word.as_bytes(),
-        None => b"",
-    }
-}
-
 /// A word that begins no section stands before the first one.
-fn of_no_section(first: &[u8]) -> Hint {
+fn of_no_section(first: &[u8]) -> Hint<'static> {
     match meant(FIRST, first) {
         Some(word) => Hint::Meant(word),
         None => Hint::Says("a section comes first: global, defaults, frontend, backend or listen"),
@@ -42,7 +35,7 @@ fn of_no_section(first: &[u8]) -> Hint {
 }
 
 /// A word isn't known, or is one too many.
-fn of_unknown(first: &[u8], second: &[u8]) -> Option<Hint> {
+fn of_unknown(first: &[u8], second: &[u8]) -> Option<Hint<'static>> {
     if let Some(word) = meant(FIRST, first) {
         return Some(Hint::Meant(word));
     }
@@ -71,7 +64,7 @@ fn of_unknown(first: &[u8], second: &[u8]) -> Option<Hint> {
 }
 
 /// The word of a list that was meant, or else these words.
-fn one_of(known: &[&'static str], word: &[u8], words: &'static str) -> Hint {
+fn one_of(known: &[&'static str], word: &[u8], words: &'static str) -> Hint<'static> {
     match meant(known, word) {
         Some(word) => Hint::Meant(word),
         None => Hint::Says(words),
@@ -79,12 +72,12 @@ fn one_of(known: &[&'static str], word: &[u8], words: &'static str) -> Hint {
 }
 
 /// A word is missing.
-fn of_missing(first: &[u8]) -> Option<Hint> {
+fn of_missing(first: &[u8]) -> Option<Hint<'static>> {
     says_of(ENDS, first)
 }
 
 /// A word is no number, or is out of range.
-fn of_number(first: &[u8]) -> Option<Hint> {
+fn of_number(first: &[u8]) -> Option<Hint<'static>> {
     if is(first, b"timeout") {
         return Some(Hint::Says("a time is a number with us, ms, s, m, h, d or nothing, for ms"));
     }
@@ -92,7 +85,11 @@ fn of_number(first: &[u8]) -> Option<Hint> {
 }
 
 /// A name isn't declared.
-fn of_name(first: &[u8]) -> Hint {
+fn of_name<'a>(words: &[Word], lines: &'a [Line]) -> Hint<'a> {
+    if let Some(name) = meant_name(words, lines) {
+        return Hint::Meant(name);
+    }
+    let first = word_at(words, 0);
     if is(first, b"use_backend") || is(first, b"default_backend") {
         return Hint::Says(
             "no backend or listen section has this name, or no acl line one of those in the condition",
@@ -102,7 +99,7 @@ fn of_name(first: &[u8]) -> Hint {
 }
 
 /// The word is one of HAProxy's that is left out. This is the first and the third word of its line.
-fn of_left_out(word: &[u8], first: &[u8], third: &[u8]) -> Option<Hint> {
+fn of_left_out(word: &[u8], first: &[u8], third: &[u8]) -> Option<Hint<'static>> {
     if is(first, b"server") {
         if word == third {
             return Some(Hint::Says(
@@ -117,7 +114,7 @@ fn of_left_out(word: &[u8], first: &[u8], third: &[u8]) -> Option<Hint> {
 }
 
 /// What the list says of the word, if it does.
-fn says_of(list: &[(&'static str, &'static str)], word: &[u8]) -> Option<Hint> {
+fn says_of(list: &[(&'static str, &'static str)], word: &[u8]) -> Option<Hint<'static>> {
     list.iter()
         .find(|(listed, _)| listed.as_bytes() == word)
         .map(|(_, words)| Hint::Says(*words))

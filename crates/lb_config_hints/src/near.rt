@@ -3,19 +3,19 @@ ghost use Rattle.std.specs.Prelude.{◌≡◌};
 ghost use Rattle.lb_config_hints.specs.Near.{are_swapped, is_near};
 
 /// The first of the known words that is one letter off this word, unless this word is known itself.
-pub(crate) fn meant(known: &[&'static str], word: &[u8]) -> Option<&'static str> {
+pub(crate) fn meant(known: &[&'static str], word: &[u8]) -> Option<&'static [u8]> {
     if known.iter().any(|it| it.as_bytes() == word) {
         return None;
     }
     known
         .iter()
         .find(|it| is_near(word, it.as_bytes()))
-        .copied()
+        .map(|it| it.as_bytes())
 }
 
 /// Whether the words are one letter apart: one has one more, another one, or two of them the other way round.
 #[tactic(auto, unfolding(crate::specs::Near::is_near))]
-fn is_near(word: &[u8], known: &[u8]) -> bool
+pub(crate) fn is_near(word: &[u8], known: &[u8]) -> bool
     ensures { result ≡ is_near word.now known.now }
 {
     let (mut word, mut known) = (word, known);

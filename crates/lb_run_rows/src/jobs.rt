@@ -1,7 +1,9 @@
 //! Jobs whose file breaks while it is read.
 
 use crate::broken::Broken;
-use lb_cli::{JobError, check, check_all, plan, plan_tables, sheet_for, verify, verify_for};
+use lb_cli::{
+    Asides, JobError, check, check_all, plan, plan_tables, sheet_for, verify, verify_for,
+};
 use lb_types_counted::Counted;
 use std::io::ErrorKind;
 use std::test::Fail;
@@ -23,7 +25,7 @@ fn a_file_that_breaks_can_not_be_read(rt: HostRuntime) -> Result<(), Fail> {
             verify(rt.alloc(), &mut Broken { kind }, &mut out).err(),
             plan(rt.alloc(), &mut Broken { kind }, &mut out).err(),
             check(rt.alloc(), &mut Broken { kind }, &mut out).err(),
-            check_all(rt.alloc(), &mut Broken { kind }, &mut out).err(),
+            check_all(rt.alloc(), &mut Broken { kind }, Asides::Warnings, &mut out).err(),
             plan_tables(rt.alloc(), &mut Broken { kind }, &mut out).err(),
             sheet_for(rt.alloc(), &mut Broken { kind }, &mut out).err(),
             verify_for(rt.alloc(), &sheet, &mut Broken { kind }, &mut out).err(),

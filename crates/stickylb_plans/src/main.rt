@@ -44,6 +44,7 @@ fn perform(rt: &HostRuntime, job: Job<'_>) -> Option<u8> {
         Job::Version => Some(tell_version(out, err)),
         Job::Check { .. }
         | Job::CheckAll { .. }
+        | Job::CheckHaproxy { .. }
         | Job::Replay { .. }
         | Job::Run { .. }
         | Job::RunWithPins { .. } => None,
