@@ -1,0 +1,4 @@
+mod Columns
+mod Escapes
+mod Lines
+mod Words

@@ -1,0 +1,10 @@
+pub mod Columns
+pub mod Cuts
+pub mod Entries
+pub mod Faults
+pub mod Fields
+pub mod Keys
+pub mod Lines
+pub mod Rows
+pub mod Servers
+pub mod Tables

@@ -1,0 +1,5 @@
+pub mod Reading
+pub mod Writing
+pub mod Names
+pub mod Tables
+pub mod Laws

@@ -1,0 +1,3 @@
+mod Farms
+mod Names
+mod Sets
