@@ -99,15 +99,20 @@ fn with_concerns(
 /// What is said of a valid text beside its report.
 fn concerns_in(alloc: Global, text: &[u8], asides: Asides) -> Result<Vec<Word>, AllocError> {
     let lines = lines_of(alloc, text)?;
-    let mut concerns = match read_config(alloc, text) {
-        Ok(config) => concerns_of(alloc, &config, &lines)?,
-        Err(ConfigFault::Fault(_)) => Vec::new(alloc),
-        Err(ConfigFault::Memory) => return Err(AllocError),
-    };
+    let mut concerns = not_meant(alloc, text, &lines)?;
     if asides == Asides::Differences {
         push_differences(alloc, &mut concerns, &lines)?;
     }
     Ok(concerns)
+}
+
+/// What is surely not meant in a valid text of these lines.
+fn not_meant(alloc: Global, text: &[u8], lines: &[Line]) -> Result<Vec<Word>, AllocError> {
+    match read_config(alloc, text) {
+        Ok(config) => concerns_of(alloc, &config, lines),
+        Err(ConfigFault::Fault(_)) => Ok(Vec::new(alloc)),
+        Err(ConfigFault::Memory) => Err(AllocError),
+    }
 }
 
 /// Appends a line for each.
@@ -246,7 +251,7 @@ fn push_said(alloc: Global, text: &mut Vec<u8>, said: &Said<'_>) -> Result<(), A
 
 /// Appends the line of the hint, if there is one.
 fn push_hint(text: &mut Vec<u8>, hint: Option<Hint<'_>>) -> Result<(), AllocError>
-    ensures { OnOk result (text.new.items ≡ text.old.items ++ hint_line hint) }
+    ensures { OnOk result (text.new.items ≡ text.old.items ++ hint_line hint.entry) }
 {
     let Some(hint) = hint else {
         return Ok(());
