@@ -1,0 +1,4 @@
+pub mod Clients
+pub mod Commands
+pub mod Moves
+pub mod PlanFarms
