@@ -1,4 +1,4 @@
-//! The jobs `sheet` and `commands` of the program `stickylb`, for a running HAProxy: the commands that make a plan so.
+//! A job `commands` for a running HAProxy: the commands that make a plan so. No program has it among its words yet.
 //!
 //! Promised: `commands_answer` gives commands only where they move just the entries that the plan moves, each to the server that it
 //! has by the plan, as `specs/Commands.antt` says. Start at `commands_answer`, and at `commands_file`, which finds the job's files and
