@@ -1,9 +1,9 @@
-ghost use Rattle.std.specs.Prelude.{◌≡◌, IfOk};
+ghost use Rattle.std.specs.Prelude.{◌≡◌, length, IfOk};
 ghost use Rattle.lb_desk_model.specs.Worn.{open_at};
 
 use crate::backend_core::Core;
 use lb_types::ServerId;
-use pin_table::TableCopy;
+use pin_table::{TableCopy, TableRoom};
 use std::alloc::{AllocError, Global};
 use std::hash::BuildHasher;
 
@@ -22,14 +22,21 @@ impl<S: BuildHasher> Core<S> {
         self.parts.table.uses()
     }
 
+    /// How many pins there are; 0 where the backend has no table.
+    pub fn pins(&self) -> usize
+        ensures { result ≡ length self.now.shown.pins }
+    {
+        self.parts.table.len()
+    }
+
     /// A copy of the pins, which gives them out in order of last use; of none where the backend has no table.
     ///
-    /// It costs one pass through the pins as they lie in memory, with a copy of each key. It allocates memory for the pins and for the
-    /// keys that are text. The only error is out of memory.
-    pub fn copy_table(&self, alloc: Global) -> Result<TableCopy, AllocError>
+    /// It costs one pass through the pins as they lie in memory, with a copy of each key. It allocates what the room lacks for the pins,
+    /// and memory for the keys that are text. The only error is out of memory.
+    pub fn copy_table(&self, alloc: Global, room: TableRoom) -> Result<TableCopy, AllocError>
         ensures exact { IfOk result (λ copy. copy ≡ self.now.shown.pins) }
     {
-        self.parts.table.copy(alloc)
+        self.parts.table.copy(alloc, room)
     }
 
     /// How many connections are open at the server; 0 where there is no such server.

@@ -15,6 +15,7 @@ use server_state::Change;
 use std::alloc::{AllocError, Global};
 use std::hash::BuildHasher;
 use std::sync::Wait;
+use std::time::Clock;
 
 impl<S: BuildHasher, B: Naming> Seat<'_, S, B> {
     // Two holds of the desk, as for a request.
@@ -37,7 +38,7 @@ impl<S: BuildHasher, B: Naming> Seat<'_, S, B> {
     }
 }
 
-impl<R: Wait, S: BuildHasher, B: Naming> Steer<R> for Seat<'_, S, B> {
+impl<R: Wait + Clock, S: BuildHasher, B: Naming> Steer<R> for Seat<'_, S, B> {
     ghost sights = { λ seat. seat.pass.sights };
 
     fn command(&mut self, rt: &R, change: Change) -> Result<Reply, Refused> {

@@ -17,6 +17,7 @@ mod journal_copy;
 mod naming;
 mod receipt;
 mod replies;
+mod rests;
 mod shared;
 mod slot;
 mod tied;

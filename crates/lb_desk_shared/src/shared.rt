@@ -15,6 +15,7 @@ use crate::journal_copy::JournalCopy;
 use crate::naming::Naming;
 use crate::receipt::{Receipt, Told};
 use crate::replies::{opening_of, shut_of};
+use crate::rests::ShortRests;
 use crate::slot::Slot;
 use crate::tied::TiedDesk;
 use lb_desk_model::{Entry, Event};
@@ -23,10 +24,12 @@ use lb_desk_step::Desk;
 use lb_desk_tie::{Opened, Pass};
 use lb_types::ServerId;
 use pin_set::{Score, TablePin};
+use pin_table::TableRoom;
 use std::alloc::{AllocError, Global};
 use std::hash::BuildHasher;
 use std::marker::Model;
 use std::sync::{Mutex, MutexGuard, Wait};
+use std::time::Clock;
 
 /// The running desk of one backend, for many threads. Contracts see it as its number, which distinguishes it from a program's
 /// other desks.
@@ -239,10 +242,11 @@ impl<S: BuildHasher, B: Naming> SharedDesk<S, B> {
     /// Copies of the pins at one moment, in order of last use, the one that wasn't used for longest first. All receipts of the pass
     /// are of events before that moment. It is no event: the pass gets no receipt, but a sight of the history at that moment.
     ///
-    /// The others wait for one pass through the pins as they lie in memory, with a copy of each key. They don't wait while the pins
-    /// are put into order of last use, which takes longer and copies each key once more. For a moment there is memory for two lists
-    /// of the pins. The only error is out of memory.
-    pub fn rows<R: Wait>(
+    /// The others wait for one pass through the pins as they lie in memory, with a copy of each key. They don't wait for the memory that
+    /// this needs, nor while the pins are put into order of last use, which takes longer and copies each key once more. It rests for 1 ms
+    /// after each 4,096 pins, so that others get the processor. For a moment there is memory for two lists of the pins. The only error
+    /// is out of memory.
+    pub fn rows<R: Wait + Clock>(
         &self,
         rt: &R,
         pass: &mut Pass<Entry, B>,
@@ -255,11 +259,23 @@ impl<S: BuildHasher, B: Naming> SharedDesk<S, B> {
             (λ desk. IfOk result (λ rows. rows.items ≡ desk.shown.pins))
             pass.new }
     {
+        let room = self.room(rt, alloc);
         let mut held = self.hold(rt);
         held.see(pass);
-        let copy = held.copy_table(alloc)?;
+        let copy = held.copy_table(alloc, room)?;
         drop(held);
-        copy.rows(alloc)
+        copy.rows(alloc, &ShortRests { rt })
+    }
+
+    /// Memory for a copy of as many pins as there are now, or none if there isn't so much.
+    fn room<R: Wait + Clock>(&self, rt: &R, alloc: Global) -> TableRoom {
+        let held = self.hold(rt);
+        let pins = held.pins();
+        drop(held);
+        match TableRoom::touched(alloc, pins, &ShortRests { rt }) {
+            Ok(room) => room,
+            Err(_) => TableRoom::empty(alloc),
+        }
     }
 
     /// A copy of all that the journal keeps at one moment. All receipts of the pass are of events before that moment. It is no event:

@@ -15,7 +15,7 @@ use lb_desk_model::{Entry, Event};
 use lb_desk_ports::Refused;
 use lb_desk_step::{Desk, Taken, TakenPlan};
 use lb_desk_tie::{Keeper, Opened, Pass};
-use pin_table::TableCopy;
+use pin_table::{TableCopy, TableRoom};
 use std::alloc::{AllocError, Global};
 use std::hash::BuildHasher;
 use std::marker::Model;
@@ -172,11 +172,16 @@ impl<S: BuildHasher, B: Naming> TiedDesk<S, B> {
         self.keeper.see(pass);
     }
 
+    /// How many pins there are.
+    pub(crate) fn pins(&self) -> usize {
+        self.desk.pins()
+    }
+
     /// A copy of the pins, which gives them out in order of last use.
-    pub(crate) fn copy_table(&self, alloc: Global) -> Result<TableCopy, AllocError>
+    pub(crate) fn copy_table(&self, alloc: Global, room: TableRoom) -> Result<TableCopy, AllocError>
         ensures { IfOk result (λ copy. copy ≡ self.now.desk.shown.pins) }
     {
-        self.desk.copy_table(alloc)
+        self.desk.copy_table(alloc, room)
     }
 
     /// A copy of the journal.

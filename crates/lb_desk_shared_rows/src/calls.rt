@@ -20,6 +20,7 @@ use std::marker::Brand;
 use std::process::Abort;
 use std::sync::Wait;
 use std::test::Fail;
+use std::time::Clock;
 
 /// What the journal has after the calls below.
 const ENTRIES: &[Kind] = &[
@@ -58,7 +59,7 @@ fn a_seat_is_a_port_a_mover_and_a_steer(rt: HostRuntime) -> Result<(), Fail> {
     calls::<_, Brand, _>(&rt, rt.alloc(), opened, &backend, hasher)
 }
 
-fn calls<S: BuildHasher + Drop, N: Naming, R: Wait + Abort>(
+fn calls<S: BuildHasher + Drop, N: Naming, R: Wait + Clock + Abort>(
     rt: &R,
     alloc: Global,
     opened: Opened<Entry>,
@@ -81,7 +82,7 @@ fn calls<S: BuildHasher + Drop, N: Naming, R: Wait + Abort>(
 }
 
 /// Makes all calls at one seat, and gives its pass back.
-fn take_a_seat<S: BuildHasher, N: Naming, R: Wait + Abort>(
+fn take_a_seat<S: BuildHasher, N: Naming, R: Wait + Clock + Abort>(
     rt: &R,
     alloc: Global,
     desk: &SharedDesk<S, N>,

@@ -15,6 +15,7 @@ use std::marker::Brand;
 use std::process::Abort;
 use std::sync::Wait;
 use std::test::Fail;
+use std::time::Clock;
 
 /// Closes the desk with these two passes.
 pub(crate) fn close_with<B: Naming>(
@@ -46,7 +47,7 @@ pub(crate) fn judge(
 }
 
 /// Closes a desk too early, twice, and then in time.
-fn close_thrice<B: Naming, R: Wait + Abort>(
+fn close_thrice<B: Naming, R: Wait + Clock + Abort>(
     rt: &R,
     alloc: Global,
     opened: Opened<Entry>,
@@ -92,7 +93,7 @@ fn close_with_a_pass_out<B: Naming, R: Abort>(
 }
 
 /// Closes the desk with a connection open, which it refuses, and then once that has ended.
-fn close_with_a_connection_open<B: Naming, R: Wait + Abort>(
+fn close_with_a_connection_open<B: Naming, R: Wait + Clock + Abort>(
     rt: &R,
     alloc: Global,
     desk: SharedDesk<Hasher, B>,

@@ -190,7 +190,7 @@ fn serve_each<N: Naming, R: Wait + Clock>(
 }
 
 /// One request, with a pass of its own, and its number in the desk's history.
-fn serve<N: Naming, R: Wait>(
+fn serve<N: Naming, R: Wait + Clock>(
     rt: &R,
     alloc: Global,
     desk: &SharedDesk<Hasher, N>,

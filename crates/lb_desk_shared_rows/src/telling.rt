@@ -19,6 +19,7 @@ use std::process::Abort;
 use std::sync::Wait;
 use std::sync::atomic::{AtomicBool, Ordering};
 use std::test::Fail;
+use std::time::Clock;
 
 /// A planner that may make so many plans, what the journal has then, and how often it planned while all others waited.
 #[derive(Clone, Copy, Debug)]
@@ -76,7 +77,7 @@ struct LetsOneIn<'a, S: BuildHasher, N: Naming> {
     waits: AtomicBool,
 }
 
-impl<R: Wait, S: BuildHasher, N: Naming> Gate<R> for LetsOneIn<'_, S, N> {
+impl<R: Wait + Clock, S: BuildHasher, N: Naming> Gate<R> for LetsOneIn<'_, S, N> {
     fn at(&self, rt: &R, point: Point) {
         if point == Point::Planned && self.waits.swap(false, Ordering::SeqCst) {
             // Where it fails, the journal shows it.
@@ -85,7 +86,7 @@ impl<R: Wait, S: BuildHasher, N: Naming> Gate<R> for LetsOneIn<'_, S, N> {
     }
 }
 
-fn let_in<R: Wait, S: BuildHasher, N: Naming>(
+fn let_in<R: Wait + Clock, S: BuildHasher, N: Naming>(
     rt: &R,
     alloc: Global,
     desk: &SharedDesk<S, N>,
@@ -105,7 +106,7 @@ fn a_planner_that_is_told_lets_a_request_in(rt: HostRuntime) -> Result<(), Fail>
     Ok(())
 }
 
-fn tell<S: BuildHasher + Drop, N: Naming, R: Wait + Abort>(
+fn tell<S: BuildHasher + Drop, N: Naming, R: Wait + Clock + Abort>(
     rt: &R,
     alloc: Global,
     opened: Opened<Entry>,
@@ -121,7 +122,7 @@ fn tell<S: BuildHasher + Drop, N: Naming, R: Wait + Abort>(
     plan_at(rt, alloc, &desk, row)
 }
 
-fn plan_at<S: BuildHasher, N: Naming, R: Wait + Abort>(
+fn plan_at<S: BuildHasher, N: Naming, R: Wait + Clock + Abort>(
     rt: &R,
     alloc: Global,
     desk: &SharedDesk<S, N>,

@@ -11,10 +11,11 @@ use lb_types::ServerId;
 use std::alloc::Global;
 use std::process::Abort;
 use std::sync::Wait;
+use std::time::Clock;
 
 /// A whole request with this key: a server is asked for, and a connection to it is opened and shut, which is never refused. How it
 /// was served, or none where it wasn't.
-pub(crate) fn request_once<B: Naming, R: Wait + Abort>(
+pub(crate) fn request_once<B: Naming, R: Wait + Clock + Abort>(
     rt: &R,
     alloc: Global,
     desk: &SharedDesk<Hasher, B>,
@@ -46,7 +47,7 @@ fn served(reply: &Reply) -> Option<(ServerId, ServedAs)> {
 }
 
 /// A caller of its own: two whole requests, and a plan between them.
-pub(crate) fn day<B: Naming, R: Wait + Abort>(
+pub(crate) fn day<B: Naming, R: Wait + Clock + Abort>(
     rt: &R,
     alloc: Global,
     desk: &SharedDesk<Hasher, B>,

@@ -14,6 +14,7 @@ use std::process::Abort;
 use std::sync::Wait;
 use std::test::Fail;
 use std::thread::{Threads, join};
+use std::time::Clock;
 
 /// Two desks of one backend.
 #[derive(Drop)]
@@ -26,7 +27,7 @@ struct Desks<B: Naming> {
 type Passes<B> = Option<(Pass<Entry, B>, Pass<Entry, B>)>;
 
 /// A thread's calls at both desks, with keys of its own and one that others have, too.
-fn work<B: Naming, R: Wait + Abort>(
+fn work<B: Naming, R: Wait + Clock + Abort>(
     rt: &R,
     alloc: Global,
     desks: &Desks<B>,
@@ -38,7 +39,7 @@ fn work<B: Naming, R: Wait + Abort>(
 }
 
 /// Both threads together.
-fn work_twice<B: Naming + Send + Sync, R: Threads + Wait + Abort + Sync>(
+fn work_twice<B: Naming + Send + Sync, R: Threads + Wait + Clock + Abort + Sync>(
     rt: &R,
     alloc: Global,
     desks: &Desks<B>,
@@ -51,7 +52,7 @@ fn work_twice<B: Naming + Send + Sync, R: Threads + Wait + Abort + Sync>(
 }
 
 /// Two threads share two desks; then each desk is closed, and its journal judged.
-fn share_two<B: Naming + Send + Sync, R: Threads + Wait + Abort + Sync>(
+fn share_two<B: Naming + Send + Sync, R: Threads + Wait + Clock + Abort + Sync>(
     rt: &R,
     alloc: Global,
     one: Opened<Entry>,
@@ -89,7 +90,7 @@ fn two_threads_share_two_desks(rt: HostRuntime) -> Result<(), Fail> {
 }
 
 /// One thread makes a pin; once it has ended, another is served through it.
-fn keep_for_another<B: Naming + Send + Sync, R: Threads + Wait + Abort + Sync>(
+fn keep_for_another<B: Naming + Send + Sync, R: Threads + Wait + Clock + Abort + Sync>(
     rt: &R,
     alloc: Global,
     opened: Opened<Entry>,
@@ -108,7 +109,7 @@ fn keep_for_another<B: Naming + Send + Sync, R: Threads + Wait + Abort + Sync>(
 }
 
 /// One request, with a pass of its own.
-fn serve<B: Naming, R: Wait + Abort>(
+fn serve<B: Naming, R: Wait + Clock + Abort>(
     rt: &R,
     alloc: Global,
     desk: &SharedDesk<Hasher, B>,

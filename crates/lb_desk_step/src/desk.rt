@@ -1,4 +1,4 @@
-ghost use Rattle.std.specs.Prelude.{◌≡◌, ◌<◌, ◌↔◌, true, [], take, IfOk, OnErr, IsErrOf};
+ghost use Rattle.std.specs.Prelude.{◌≡◌, ◌<◌, ◌↔◌, true, [], take, length, IfOk, OnErr, IsErrOf};
 ghost use Rattle.std.specs.Option.{option_to_list};
 ghost use Rattle.lb_desk_model.specs.Worn.{ends_one, open_connections};
 ghost use Rattle.lb_desk_tail.specs.Tail.{leaving};
@@ -14,7 +14,7 @@ use lb_desk_model::{Backend, Entry, Event, Reply};
 use lb_desk_ports::Refused;
 use lb_desk_tail::Tail;
 use pin_set::{Score, TablePin};
-use pin_table::TableCopy;
+use pin_table::{NoRest, TableCopy, TableRoom};
 use std::alloc::{AllocError, Global};
 use std::hash::BuildHasher;
 use std::marker::Model;
@@ -197,15 +197,23 @@ impl<S: BuildHasher> Desk<S> {
         self.connections
     }
 
+    /// How many pins there are; 0 if the backend has no table.
+    pub fn pins(&self) -> usize
+        ensures { result ≡ length self.now.shown.pins }
+    {
+        self.core.pins()
+    }
+
     /// A copy of the pins, which gives them out in order of last use; of none if the backend has no table. It is no event, and no use
     /// of any pin.
     ///
     /// It costs one pass through the pins as they lie in memory, with a copy of each key, and hashes nothing. Putting them in order
-    /// is left to the copy. It allocates memory for the pins and for the keys that are text. The only error is out of memory.
-    pub fn copy_table(&self, alloc: Global) -> Result<TableCopy, AllocError>
+    /// is left to the copy. It allocates what the room lacks for the pins, and memory for the keys that are text. The only error is out
+    /// of memory.
+    pub fn copy_table(&self, alloc: Global, room: TableRoom) -> Result<TableCopy, AllocError>
         ensures exact { IfOk result (λ copy. copy ≡ self.now.shown.pins) }
     {
-        self.core.copy_table(alloc)
+        self.core.copy_table(alloc, room)
     }
 
     /// Copies of the pins, in order of last use, the one that wasn't used for longest first; none where the backend has no table.
@@ -216,7 +224,8 @@ impl<S: BuildHasher> Desk<S> {
     pub fn table_rows(&self, alloc: Global) -> Result<Vec<TablePin>, AllocError>
         ensures exact { IfOk result (λ rows. rows.items ≡ self.now.shown.pins) }
     {
-        self.copy_table(alloc)?.rows(alloc)
+        let copy = self.copy_table(alloc, TableRoom::empty(alloc))?;
+        copy.rows(alloc, &NoRest)
     }
 
     /// The journal: the newest entries, and how many there were.

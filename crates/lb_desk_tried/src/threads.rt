@@ -18,6 +18,7 @@ use std::marker::Brand;
 use std::random::RandomSource;
 use std::sync::Wait;
 use std::thread::{Threads, map_indices};
+use std::time::Clock;
 
 /// The farm of both desks: checked servers with limits of connections and of pins, a backup, and a table that is full now and then.
 const FARM: &str = "backend web
@@ -68,7 +69,7 @@ struct Worked<B: Naming> {
 }
 
 /// So many threads make so many random calls each, and up to three more, at two desks, which are then closed.
-pub fn try_threads<R: Threads + Wait + RandomSource + Sync>(
+pub fn try_threads<R: Threads + Wait + Clock + RandomSource + Sync>(
     rt: &R,
     alloc: Global,
     threads: usize,
@@ -101,7 +102,7 @@ fn journal_size(threads: usize, calls: u64) -> u32
 }
 
 /// The same, with desks whose name is picked.
-fn share<B: Naming + Send + Sync, R: Threads + Wait + Sync>(
+fn share<B: Naming + Send + Sync, R: Threads + Wait + Clock + Sync>(
     rt: &R,
     alloc: Global,
     opened: (Opened<Entry>, Opened<Entry>),
@@ -152,7 +153,7 @@ fn desk_of<B: Naming>(
 }
 
 /// A thread's calls, now at the one desk and now at the other.
-fn work<B: Naming, R: Wait>(
+fn work<B: Naming, R: Wait + Clock>(
     rt: &R,
     alloc: Global,
     desks: &Desks<B>,

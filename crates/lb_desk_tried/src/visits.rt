@@ -9,6 +9,7 @@ use lb_desk_steer::Steer;
 use std::alloc::Global;
 use std::hash::BuildHasher;
 use std::sync::Wait;
+use std::time::Clock;
 
 /// What a thread did at a desk.
 #[derive(Clone, Copy, Debug)]
@@ -68,7 +69,7 @@ impl<'a, S: BuildHasher, B: Naming> Visitor<'a, S, B> {
     }
 
     /// One to four calls: a whole request, or one that is none.
-    pub(crate) fn visit<R: Wait>(
+    pub(crate) fn visit<R: Wait + Clock>(
         &mut self,
         rt: &R,
         alloc: Global,
@@ -81,7 +82,7 @@ impl<'a, S: BuildHasher, B: Naming> Visitor<'a, S, B> {
     }
 
     /// A server is asked for, and a connection to it opened and shut, perhaps with another call between.
-    fn request<R: Wait>(
+    fn request<R: Wait + Clock>(
         &mut self,
         rt: &R,
         alloc: Global,
@@ -111,7 +112,7 @@ impl<'a, S: BuildHasher, B: Naming> Visitor<'a, S, B> {
     }
 
     /// A call that is no request, and sees no connection.
-    fn other_call<R: Wait>(
+    fn other_call<R: Wait + Clock>(
         &mut self,
         rt: &R,
         alloc: Global,

@@ -11,6 +11,7 @@ use lb_run_floor::{Desks, Seating};
 use std::alloc::Global;
 use std::hash::RandomState;
 use std::sync::Wait;
+use std::time::Clock;
 
 /// A thread's place at a desk of this balancer.
 pub(crate) type RunSeat<'a, B> = Seat<'a, RandomState, B>;
@@ -58,7 +59,7 @@ impl<B: Naming> Desks for RunDesks<'_, B> {
     ghost opened = { λ run. map (opened_as B.opening B.journal_size) run.desks.now };
 }
 
-impl<'a, R: Wait, B: Naming + Send + Sync> Seating<R> for RunDesks<'a, B> {
+impl<'a, R: Wait + Clock, B: Naming + Send + Sync> Seating<R> for RunDesks<'a, B> {
     type Seat = RunSeat<'a, B>;
 
     fn seat_at(&self, rt: &R, place: usize) -> Result<RunSeat<'a, B>, Refused> {

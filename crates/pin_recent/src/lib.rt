@@ -13,6 +13,8 @@ mod copy;
 mod iter;
 mod log;
 mod recent;
+mod rests;
+mod room;
 mod stamped;
 mod store;
 
@@ -20,3 +22,5 @@ pub use change::Change;
 pub use copy::RecentCopy;
 pub use iter::Iter;
 pub use recent::Recent;
+pub use rests::{NoRest, Rests};
+pub use room::CopyRoom;

@@ -5,6 +5,7 @@ ghost use Rattle.pin_recent.specs.Recent.{IsChanged, MayChange, in_order, touche
 
 use crate::change::Change;
 use crate::copy::RecentCopy;
+use crate::room::CopyRoom;
 use crate::store::Store;
 use std::alloc::{AllocError, AllocFailed, Global};
 use std::hash::{BuildHasher, Hash};
@@ -104,12 +105,12 @@ impl<K: Eq + Hash + Clone + Drop, V: Copy, S: BuildHasher> Recent<K, V, S> {
     /// of a key equals the key.
     ///
     /// It costs one pass over the pairs, in an order of the map's own, that clones each key, and a copy of the order of last use.
-    /// Only a walk through the copy brings the two together. It hashes nothing. The room for all pairs, and 4 bytes for each pair and
+    /// Only a walk through the copy brings the two together. It hashes nothing. What the room lacks, and 4 bytes for each pair and
     /// each hole of the order, is taken before the pass. The only error is out of memory, for that or for a key.
-    pub fn copy(&self, alloc: Global) -> Result<RecentCopy<K, V>, AllocError>
+    pub fn copy(&self, alloc: Global, room: CopyRoom<K, V>) -> Result<RecentCopy<K, V>, AllocError>
         ensures { IfOk result (λ copy. ((key clone : K) → K.is_clone key clone → clone ≡ key) → copy ≡ self.now.pairs) }
     {
-        self.store.copy(alloc)
+        self.store.copy(alloc, room)
     }
 }
 

@@ -10,6 +10,7 @@ ghost use Rattle.pin_recent.specs.Sound.{Ordered, Trim, Tied, OnlyAt, Nowhere, I
 use crate::change::Change;
 use crate::copy::RecentCopy;
 use crate::log::{HOLE, Log};
+use crate::room::CopyRoom;
 use crate::stamped::Stamped;
 use indexmap::IndexMap;
 use std::alloc::{AllocError, AllocFailed, Global};
@@ -249,12 +250,18 @@ impl<K: Eq + Hash, V, S: BuildHasher> Store<K, V, S> {
 
 impl<K: Eq + Hash + Clone + Drop, V: Copy, S: BuildHasher> Store<K, V, S> {
     /// A copy of the pairs, in the map's order, and of the log.
-    pub(crate) fn copy(&self, alloc: Global) -> Result<RecentCopy<K, V>, AllocError>
+    pub(crate) fn copy(
+        &self,
+        alloc: Global,
+        room: CopyRoom<K, V>,
+    ) -> Result<RecentCopy<K, V>, AllocError>
         requires { Ordered self.now }
         ensures { IfOk result (λ copy. ((key clone : K) → K.is_clone key clone → clone ≡ key) → copy ≡ stored self.now) }
     {
         let places = self.log.copy(alloc)?;
-        let mut pairs = Vec::with_capacity(alloc, self.map.len())?;
+        let mut pairs = room.pairs;
+        pairs.clear();
+        pairs.reserve(self.map.len())?;
         for (key, stamped) in &self.map {
             pairs.push((key.clone()?, stamped.value))?;
         }

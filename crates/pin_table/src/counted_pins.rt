@@ -12,7 +12,7 @@ ghost use Rattle.pin_table.specs.Placed.{AreMovesOf, ArePlaced};
 ghost use Rattle.pin_moves.specs.Moves.{AreRisingCounts, move_before};
 
 use crate::placing::counts_after;
-use crate::{Held, TableCopy, TableKind};
+use crate::{Held, TableCopy, TableKind, TableRoom};
 use lb_types::{Moment, ServerId};
 use pin_counts::Counts;
 use pin_moves::{Move, Moving};
@@ -205,10 +205,10 @@ impl<S: BuildHasher> CountedPins<S> {
     }
 
     /// A copy of the pins.
-    pub(crate) fn copy(&self, alloc: Global) -> Result<TableCopy, AllocError>
+    pub(crate) fn copy(&self, alloc: Global, room: TableRoom) -> Result<TableCopy, AllocError>
         ensures { IfOk result (λ copy. copy ≡ self.now.pins) }
     {
-        let pins = self.pins.copy(alloc)?;
+        let pins = self.pins.copy(alloc, room.pins)?;
         Ok(TableCopy::of(pins))
     }
 

@@ -12,9 +12,12 @@ mod placing;
 mod table;
 mod table_copy;
 mod table_kind;
+mod table_room;
 
 pub use held::Held;
 pub use insert_fault::{InsertFault, NotInserted};
+pub use pin_recent::{NoRest, Rests};
 pub use table::Table;
 pub use table_copy::TableCopy;
 pub use table_kind::TableKind;
+pub use table_room::TableRoom;

@@ -11,7 +11,7 @@ ghost use Rattle.pin_moves.specs.Moves.{AreRisingCounts, move_before};
 ghost use Rattle.pin_table.specs.Tables.{IsTable, IsRefusal, after_use, is_closed, is_full, staying, table_of_parts, with_pins};
 
 use crate::counted_pins::CountedPins;
-use crate::{Held, InsertFault, NotInserted, TableCopy, TableKind};
+use crate::{Held, InsertFault, NotInserted, TableCopy, TableKind, TableRoom};
 use lb_types::{Moment, ServerId, TableSettings};
 use pin_moves::Move;
 use pin_set::{PinCount, PinId};
@@ -233,12 +233,12 @@ impl<S: BuildHasher> Table<S> {
     /// A copy of the pins, which gives them out in order of last use. It is no use of any pin.
     ///
     /// It costs one pass through the pins as they lie in memory, with a copy of each key, and hashes nothing. To put them into
-    /// order is left to the copy. It allocates memory for the pins, before the pass, and for the keys that are text. The only error is
-    /// out of memory.
-    pub fn copy(&self, alloc: Global) -> Result<TableCopy, AllocError>
+    /// order is left to the copy. It allocates what the room lacks for the pins, before the pass, and memory for the keys that are
+    /// text. The only error is out of memory.
+    pub fn copy(&self, alloc: Global, room: TableRoom) -> Result<TableCopy, AllocError>
         ensures exact { IfOk result (λ copy. copy ≡ self.now.pins) }
     {
-        self.pins.copy(alloc)
+        self.pins.copy(alloc, room)
     }
 
     /// How many pins there are of each kind, for the kinds that there are, in rising order. The counts are kept as pins change,

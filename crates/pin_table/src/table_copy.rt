@@ -3,7 +3,7 @@ ghost use Rattle.pin_table.specs.Counted.{listed};
 ghost use Rattle.pin_table.specs.Pins.{held_pin};
 
 use crate::Held;
-use pin_recent::RecentCopy;
+use pin_recent::{RecentCopy, Rests};
 use pin_set::{Pin, PinId, TablePin};
 use std::alloc::{AllocError, Global};
 use std::marker::Model;
@@ -36,15 +36,16 @@ impl TableCopy {
 
     /// The pins as a list, in order of last use.
     ///
-    /// It costs one walk over the pins, which lie anywhere in memory, and a copy of each key, and hashes nothing. It allocates memory
-    /// for the list and for the keys that are text. The only error is out of memory.
-    pub fn rows(&self, alloc: Global) -> Result<Vec<TablePin>, AllocError>
+    /// It costs one walk over the pins, which lie anywhere in memory, with these rests, and a copy of each key, and hashes nothing. It
+    /// allocates memory for the list and for the keys that are text. The only error is out of memory.
+    pub fn rows<P: Rests>(&self, alloc: Global, rests: &P) -> Result<Vec<TablePin>, AllocError>
         ensures { IfOk result (λ rows. rows.items ≡ self.now) }
     {
         let mut rows = Vec::with_capacity(alloc, self.pins.len())?;
         for (name, held) in self.pins.iter() {
             let row = row_of(name, *held)?;
             rows.push(row)?;
+            rests.rest_after(rows.len());
         }
         Ok(rows)
     }

@@ -1,6 +1,6 @@
 use crate::sketch::{cost_of, name_of, settings, want_of};
 use lb_types::{Moment, Place, ServerId};
-use pin_table::{InsertFault, Table, TableKind};
+use pin_table::{InsertFault, NoRest, Table, TableKind, TableRoom};
 use std::alloc::{AllocError, Global};
 use std::hash::{BuildHasher, BuildHasherDefault, FoldHasher, RandomState};
 use std::process::Abort;
@@ -118,7 +118,9 @@ impl<S: BuildHasher + Drop> Both<S> {
 
     /// Whether the table's rows are the list's pins, in their order.
     fn rows_agree(&self, alloc: Global) -> Result<bool, AllocError> {
-        let rows = self.table.copy(alloc)?.rows(alloc)?;
+        // Too little room, so that the copy has to take more.
+        let room = TableRoom::touched(alloc, self.plain.len() / 2, &NoRest)?;
+        let rows = self.table.copy(alloc, room)?.rows(alloc, &NoRest)?;
         if rows.len() != self.plain.len() {
             return Ok(false);
         }

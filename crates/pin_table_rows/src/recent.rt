@@ -1,4 +1,4 @@
-use pin_recent::Recent;
+use pin_recent::{CopyRoom, NoRest, Recent};
 use std::alloc::{AllocError, Global};
 use std::hash::{BuildHasher, BuildHasherDefault, FoldHasher, RandomState};
 use std::test::Fail;
@@ -62,7 +62,10 @@ impl<S: BuildHasher + Drop> Both<S> {
 
     /// Whether a copy of the map is the list, in its order.
     fn copy_agrees(&self, alloc: Global) -> Result<bool, AllocError> {
-        let copy = self.table.copy(alloc)?;
+        let copy = self.table.copy(
+            alloc,
+            CopyRoom::touched(alloc, &0, 0, self.plain.len(), &NoRest)?,
+        )?;
         let mut left = self.plain.len();
         for ((key, value), pair) in copy.iter().zip(self.plain.iter()) {
             if (*key, *value) != *pair {

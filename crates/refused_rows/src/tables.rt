@@ -5,7 +5,7 @@ use crate::marks::{begin, end, tell};
 use dual_cert::{Plan, read_plan};
 use lb_types::{Moment, ServerSet, TableSettings};
 use pin_set::{PinCount, PinId, PinKey, TablePin};
-use pin_table::Table;
+use pin_table::{NoRest, Table, TableRoom};
 use pin_table_rows::placed;
 use std::alloc::{AllocError, Global};
 use std::hash::{BuildHasherDefault, FoldHasher};
@@ -42,7 +42,9 @@ struct Stand {
 impl Stand {
     fn of(alloc: Global, table: &Table<Hasher>) -> Result<Stand, AllocError> {
         Ok(Stand {
-            pins: table.copy(alloc)?.rows(alloc)?,
+            pins: table
+                .copy(alloc, TableRoom::empty(alloc))?
+                .rows(alloc, &NoRest)?,
             counts: table.pin_counts(alloc)?,
             uses: table.uses(),
         })

@@ -5,7 +5,7 @@ use Rattle.pin_table.specs.Pins.{held_pin}
 use Rattle.pin_table.proofs.table_copy.TableCopy.rows.Goals as goal
 
 pub loop-name-preserved : goal.loop-name-preserved
-loop-name-preserved c =
+loop-name-preserved g c =
     let next = held_pin c.in-Some.name.now c.in-Some.held.now in
     let items = c.loop-name.rows.items in
     let rest = listed c.next.new.self in
@@ -15,7 +15,7 @@ loop-name-preserved c =
     ∙ c.loop-name.invariant
 
 pub returns : goal.returns
-returns c =
+returns g c =
     let items = c.loop-name.rows.items in
     sym (append-nil items) ∙ ap (λ es. items ++ listed es) (sym c.in-None.ensures.steps.0) ∙ c.loop-name.invariant
     ∙ ap (λ es. listed es) (c.into_iter-name-iterator.ensures.into_iter_gives ∙ c.iter-name-items.ensures)
