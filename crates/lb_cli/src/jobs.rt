@@ -1,6 +1,7 @@
 use crate::{Asides, check, check_all};
 use lb_cli_ends::{JobError, end, opened, whole};
 use lb_cli_format::format_file;
+use lb_cli_haproxy::{commands_file, sheet_file};
 use lb_cli_plans::{plan_file, tables_file, tell_version};
 use lb_cli_verify::{verify_file, verify_files};
 use lb_cli_words::Job;
@@ -59,6 +60,17 @@ pub fn perform<'a, R: Files, O: Write, E: Write>(
         Job::Plan { file } => plan_file(alloc, rt, file, out, err),
         Job::PlanTable { file } => tables_file(alloc, rt, file, out, err),
         Job::Format { file } => format_file(alloc, rt, file, out, err),
+        Job::Sheet {
+            target,
+            state,
+            dump,
+        } => sheet_file(alloc, rt, target, state, dump, out, err),
+        Job::Commands {
+            backend,
+            state,
+            dump,
+            plan,
+        } => commands_file(alloc, rt, backend, state, dump, plan, out, err),
         Job::Version => tell_version(out, err),
         Job::Check { file } => check_file(alloc, rt, file, Wanted::FirstFault, out, err),
         Job::CheckAll { file } => {

@@ -1,2 +1,5 @@
 pub mod Made
 mod Moving
+mod OnServers
+mod SheetFarms
+pub mod SheetMade

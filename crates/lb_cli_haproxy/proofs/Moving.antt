@@ -9,7 +9,7 @@ one_of : {X : Type 0} (x : Option X) (xs : List X) → cons_option x xs ≡ cons
 one_of None xs = refl
 one_of (Some x) xs = refl
 
-front_of : {X : Type 0} (xs : List X) (i : ℕ) (x : X) → i < length xs → x ≡ get_or xs i x → drop i xs ≡ x ∷ drop (i + 1) xs
+pub front_of : {X : Type 0} (xs : List X) (i : ℕ) (x : X) → i < length xs → x ≡ get_or xs i x → drop i xs ≡ x ∷ drop (i + 1) xs
 front_of xs i x within is = rw (add-one, drop-cons xs i x) (ap (λ y. y ∷ drop (suc i) xs) (sym is))
 
 first_move : (numbers : List ℕ) (all_clients clients : List Client) (all_places places : List (Option ℕ)) (client : Client) (place : Option ℕ)

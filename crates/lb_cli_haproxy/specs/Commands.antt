@@ -15,7 +15,8 @@ use Rattle.pin_groups_spread.specs.Accepted.{IsAcceptedFor}
 use Rattle.pin_set.specs.Assignments.{IsBest}
 use Rattle.pin_set.specs.Rows.{Agrees}
 use Rattle.pin_set.specs.Views.{ViewParts, kinds_of, capacities}
-use Rattle.lb_cli_haproxy.specs.PlanFarms.{farm_servers}
+use Rattle.lb_types.specs.Servers.{has}
+use Rattle.lb_cli_haproxy.specs.PlanFarms.{farm_servers, is_on_at}
 use Rattle.lb_cli_haproxy.specs.declared.clients.Client.{Client}
 use Rattle.lb_cli_haproxy.specs.Clients.{clients_of, places_of}
 use Rattle.lb_cli_haproxy.specs.Moves.{numbers_named, all_have_numbers, moves_of, said_by}
@@ -36,10 +37,11 @@ table_name dump = first_part 44 (first_part 10 (drop 9 dump))
 abbrev pub farm_by : PlanParts → List Client → ℕ → ViewParts
 farm_by plan clients usable = farm_of usable (farm_servers plan) (places_of clients)
 
--- The check accepts the plan for a sheet of the clients' farm, so just those of its servers are usable that the plan gives a capacity.
+-- Usable are the servers that aren't off in the plan, and the check accepts it for a sheet of the clients' farm.
 -- As many clients go to each of the places as the plan says, and no assignment is better.
 pub record ArePlacesBy (plan : PlanParts) (clients : List Client) (places : List (Option ℕ)) : Type 0 where
   pub usable : ℕ
+  pub on : (at : ℕ) → has usable at ≡ is_on_at plan.servers at
   pub accepted : IsAcceptedFor (farm_by plan clients usable) plan
   pub agree : Agrees plan.rows (kinds_of (farm_by plan clients usable)) places
   pub best : IsBest (capacities (farm_by plan clients usable)) (kinds_of (farm_by plan clients usable)) places

@@ -2,3 +2,4 @@ pub mod Clients
 pub mod Commands
 pub mod Moves
 pub mod PlanFarms
+pub mod Sheets

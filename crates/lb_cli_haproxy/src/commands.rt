@@ -69,7 +69,11 @@ fn commands_for(
 }
 
 /// HAProxy's servers in the backend.
-fn servers_in(alloc: Global, backend: &[u8], state: &[u8]) -> Result<Vec<Server>, Refusal>
+pub(crate) fn servers_in(
+    alloc: Global,
+    backend: &[u8],
+    state: &[u8],
+) -> Result<Vec<Server>, Refusal>
     ensures { IfOk result (λ servers. servers_of backend.now state.now ≡ Ok servers.items) }
 {
     match read_servers(alloc, backend, state) {
@@ -80,7 +84,7 @@ fn servers_in(alloc: Global, backend: &[u8], state: &[u8]) -> Result<Vec<Server>
 }
 
 /// The entries of the dump.
-fn entries_in(alloc: Global, dump: &[u8]) -> Result<Vec<Entry>, Refusal>
+pub(crate) fn entries_in(alloc: Global, dump: &[u8]) -> Result<Vec<Entry>, Refusal>
     ensures { IfOk result (λ entries. table_of dump.now ≡ Ok entries.items) }
 {
     match read_table(alloc, dump) {
@@ -125,13 +129,10 @@ fn new_places(
     ensures whole { IfOk result (λ places. length places.items ≡ length clients.now) }
 {
     let now = places_of(alloc, clients)?;
-    let Some(places) = places_by(alloc, usable_servers(plan), farm, &now, plan)? else {
-        return Err(Refusal::OtherDump);
-    };
-    if places.len() != clients.len() {
-        return Err(Refusal::OtherDump);
+    match places_by(alloc, usable_servers(plan), farm, &now, plan)? {
+        Some(places) => Ok(places),
+        None => Err(Refusal::OtherDump),
     }
-    Ok(places)
 }
 
 /// The name of the table that was dumped.

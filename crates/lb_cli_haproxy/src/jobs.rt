@@ -1,9 +1,35 @@
 use crate::answer::Answer;
 use crate::commands::commands_answer;
+use crate::sheet::sheet_answer;
 use lb_cli_ends::{JobError, end, opened, whole};
 use std::alloc::Global;
 use std::io::Write;
 use std::rt::Files;
+
+/// Does the job `sheet` for the answers of HAProxy in the files. The answer goes to `out`. What prevented the job goes to `err`. Returns
+/// the program's exit status, that of `end`.
+pub fn sheet_file<R: Files, O: Write, E: Write>(
+    alloc: Global,
+    rt: &R,
+    target: &str,
+    state: &str,
+    dump: &str,
+    out: &mut O,
+    err: &mut E,
+) -> u8 {
+    let state_text = match text_of(alloc, rt, state) {
+        Ok(text) => text,
+        Err(error) => return end(Err(error), state, err),
+    };
+    let dump_text = match text_of(alloc, rt, dump) {
+        Ok(text) => text,
+        Err(error) => return end(Err(error), dump, err),
+    };
+    match sheet_answer(alloc, target.as_bytes(), &state_text, &dump_text) {
+        Ok(answer) => end(written(&answer, out), dump, err),
+        Err(_) => end(Err(JobError::OutOfMemory), dump, err),
+    }
+}
 
 /// Does the job `commands` for the answers of HAProxy and the plan in the files. The answer goes to `out`. What prevented the job goes to
 /// `err`. Returns the program's exit status, that of `end`.

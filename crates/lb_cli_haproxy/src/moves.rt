@@ -39,7 +39,7 @@ fn number_named(servers: &[Server], name: &[u8]) -> Option<u32>
 }
 
 /// The first server with this name.
-fn server_named<'a>(servers: &'a [Server], name: &[u8]) -> Option<&'a Server>
+pub(crate) fn server_named<'a>(servers: &'a [Server], name: &[u8]) -> Option<&'a Server>
     ensures { option_copied result ≡ find (λ server. bytes_eq server.name name.now) servers.now }
 {
     servers.iter().find(|server| has_name(server, name))

@@ -1,7 +1,9 @@
-ghost use Rattle.std.specs.Prelude.{◌≡◌, ◌≤◌, length, map, IfOk};
+ghost use Rattle.std.specs.Prelude.{◌≡◌, ◌≤◌, ℕ, length, map, IfOk};
 ghost use Rattle.lb_types.specs.declared.limits.TheConstants.{MAX_SERVERS};
-ghost use Rattle.lb_cli_haproxy.specs.PlanFarms.{farm_server, farm_servers};
+ghost use Rattle.lb_types.specs.Servers.{has};
+ghost use Rattle.lb_cli_haproxy.specs.PlanFarms.{farm_server, farm_servers, is_on, is_on_at};
 
+use crate::sets::with_if;
 use dual_cert_plan::{Plan, PricedServer};
 use lb_types::{ServerId, ServerSet};
 use pin_set::ViewServer;
@@ -34,12 +36,25 @@ fn farm_server(priced: &PricedServer) -> ViewServer
 }
 
 /// The plan's servers that aren't off.
-pub(crate) fn usable_servers(plan: &Plan) -> ServerSet {
+pub(crate) fn usable_servers(plan: &Plan) -> ServerSet
+    ensures { (at : ℕ) → has result at ≡ is_on_at plan.now.servers at }
+{
+    usable_among(plan.servers())
+}
+
+fn usable_among(servers: &[PricedServer]) -> ServerSet
+    requires { length servers.now ≤ MAX_SERVERS }
+    ensures { (at : ℕ) → has result at ≡ is_on_at servers.now at }
+{
     let mut usable = ServerSet::empty();
-    for (i, priced) in plan.servers().iter().enumerate() {
-        if priced.server.capacity.is_some() {
-            usable = usable.with(ServerId::new(i as u8));
-        }
+    for i in 0..servers.len() {
+        usable = with_if(usable, ServerId::new(i as u8), is_on(&servers[i]));
     }
     usable
+}
+
+fn is_on(priced: &PricedServer) -> bool
+    ensures { result ≡ is_on priced.now }
+{
+    priced.server.capacity.is_some()
 }

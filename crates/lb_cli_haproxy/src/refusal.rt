@@ -23,6 +23,10 @@ pub(crate) enum Refusal {
     BadTable,
     /// A key can't be named in a command.
     BadKey,
+    /// STATE has no such server, or it isn't named as `BACKEND/SERVER`.
+    Target,
+    /// There are more servers or clients than a sheet has, or servers have names that it can't have, or the same.
+    BadFarm,
 }
 
 impl From<AllocError> for Refusal {
@@ -71,6 +75,8 @@ impl Refusal {
             Refusal::Unplaced => "the plan leaves clients without a server",
             Refusal::BadTable => "no command can name the table of DUMP",
             Refusal::BadKey => "no command can name the key of a client that moves",
+            Refusal::Target => "no such BACKEND/SERVER in STATE",
+            Refusal::BadFarm => "no sheet can have these servers and clients",
             _ => "the job can't be done",
         }
     }

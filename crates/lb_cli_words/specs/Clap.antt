@@ -28,15 +28,22 @@ plan_app = with_rule (with_rule (new_app (codes "plan")) (flag_rule (codes "tabl
 abbrev pub format_app : App
 format_app = with_rule (new_app (codes "format")) file_rule
 
+-- an argument in its place, which must be there
+abbrev pub operand_rule : Text → Rule
+operand_rule name = record (new_rule name) { value_names = 1; required = true }
+
+abbrev pub sheet_app : App
+sheet_app = with_rule (with_rule (with_rule (new_app (codes "sheet")) (operand_rule (codes "target"))) (operand_rule (codes "state"))) (operand_rule (codes "dump"))
+
+abbrev pub move_lines_app : App
+move_lines_app = with_rule (with_rule (with_rule (with_rule (new_app (codes "commands"))
+    (operand_rule (codes "backend"))) (operand_rule (codes "state"))) (operand_rule (codes "dump"))) (operand_rule (codes "plan"))
+
 abbrev pub check_app : App
 check_app = with_rule (with_rule (with_rule (new_app (codes "check")) file_option_rule) (flag_rule (codes "all"))) (flag_rule (codes "haproxy"))
 
 abbrev pub run_app : App
 run_app = with_rule (with_rule (with_rule (new_app (codes "run")) file_option_rule) (named_rule (codes "pins"))) (named_rule (codes "pins-every"))
-
--- an argument in its place that names a file
-abbrev pub operand_rule : Text → Rule
-operand_rule name = record (new_rule name) { value_names = 1; required = true }
 
 abbrev pub replay_app : App
 replay_app = with_rule (with_rule (new_app (codes "replay")) (operand_rule (codes "config"))) (operand_rule (codes "script"))
@@ -57,5 +64,5 @@ program_app = with_rule plain_app (flag_rule (codes "version"))
 
 -- the program with its commands
 abbrev pub commands_app : App
-commands_app = with_subcommand (with_subcommand (with_subcommand (with_subcommand (with_subcommand (with_subcommand program_app
-    verify_app.top) plan_app.top) format_app.top) check_app.top) replay_app.top) run_app.top
+commands_app = with_subcommand (with_subcommand (with_subcommand (with_subcommand (with_subcommand (with_subcommand (with_subcommand (with_subcommand program_app
+    verify_app.top) plan_app.top) format_app.top) sheet_app.top) move_lines_app.top) check_app.top) replay_app.top) run_app.top

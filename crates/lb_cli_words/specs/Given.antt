@@ -18,6 +18,14 @@ one_of = option_map (λ file. file.now ∷ [])
 abbrev pub two_of : Option (Bor Text × Bor Text) → Option (List Text)
 two_of = option_map (λ files. files.0.now ∷ files.1.now ∷ [])
 
+-- three words
+abbrev pub three_of : Option (Bor Text × Bor Text × Bor Text) → Option (List Text)
+three_of = option_map (λ words. words.0.now ∷ words.1.now ∷ words.2.now ∷ [])
+
+-- four words
+abbrev pub four_of : Option (Bor Text × Bor Text × Bor Text × Bor Text) → Option (List Text)
+four_of = option_map (λ words. words.0.now ∷ words.1.now ∷ words.2.now ∷ words.3.now ∷ [])
+
 -- the values of an option that has at most one
 abbrev pub values_of : Option (Bor Text) → List Text
 values_of None = []

@@ -2,11 +2,17 @@
 ghost use Rattle.std.specs.Prelude.{◌≡◌, Some, IfOk, IsOkAnd, codes, false};
 ghost use Rattle.clap.specs.Words.{app_of, new_app, new_rule, rule_of, with_rule, with_subcommand};
 ghost use Rattle.clap.specs.declared.builder.command.Command.TheViews.{out-Command as fields_of};
-ghost use Rattle.lb_cli_words.specs.Clap.{check_app, commands_app, format_app, plain_app, plan_app, program_app, replay_app, run_app, verify_app};
+ghost use Rattle.lb_cli_words.specs.Clap.{check_app, commands_app, format_app, move_lines_app, plain_app, plan_app, program_app, replay_app, run_app, sheet_app, verify_app};
 ghost use Rattle.lb_cli_words.specs.Clap.{file_option_rule, flag_rule, named_rule, operand_rule};
 
 use clap::{Arg, ArgAction, Command};
 use std::alloc::{AllocError, Global};
+
+/// What the file STATE is.
+const STATE: &str = "File that holds HAProxy's answer to `show servers state BACKEND`";
+
+/// What the file DUMP is.
+const DUMP: &str = "File that holds HAProxy's answer to `show table` for the backend's table";
 
 /// The program with its commands.
 pub(crate) fn commands<'a>(alloc: Global) -> Result<Command<'a>, AllocError>
@@ -15,6 +21,8 @@ pub(crate) fn commands<'a>(alloc: Global) -> Result<Command<'a>, AllocError>
     let commands = with_command(program(alloc)?, verify(alloc))?;
     let commands = with_command(commands, plan(alloc))?;
     let commands = with_command(commands, format(alloc))?;
+    let commands = with_command(commands, sheet(alloc))?;
+    let commands = with_command(commands, move_lines(alloc))?;
     let commands = with_command(commands, check(alloc))?;
     let commands = with_command(commands, replay(alloc))?;
     with_command(commands, run(alloc))
@@ -109,6 +117,40 @@ fn format<'a>(alloc: Global) -> Result<Command<'a>, AllocError>
     );
     let file = operand(alloc, "file", "FILE", "File that holds the text");
     format.arg(file)
+}
+
+fn sheet<'a>(alloc: Global) -> Result<Command<'a>, AllocError>
+    ensures app { IfOk result (λ c. app_of c ≡ sheet_app) }
+    ensures local { IfOk result (λ c. (fields_of c).has_globals ≡ false) }
+{
+    let sheet = command(
+        alloc,
+        "sheet",
+        "Make a sheet of what a stick table of HAProxy holds, to empty a server",
+        "Prints the sheet's text with status 0, or why there is none with status 1.",
+    );
+    let target = operand(alloc, "target", "BACKEND/SERVER", "The server to empty");
+    let state = operand(alloc, "state", "STATE", STATE);
+    let dump = operand(alloc, "dump", "DUMP", DUMP);
+    with_arguments(sheet.arg(target)?, state, dump)
+}
+
+fn move_lines<'a>(alloc: Global) -> Result<Command<'a>, AllocError>
+    ensures app { IfOk result (λ c. app_of c ≡ move_lines_app) }
+    ensures local { IfOk result (λ c. (fields_of c).has_globals ≡ false) }
+{
+    let commands = command(
+        alloc,
+        "commands",
+        "Make commands for HAProxy that move the clients of its stick table by a plan",
+        "Prints a line for each client that moves, `clear table ..;set table ..`, with status 0, or why there are none \
+         with status 1.",
+    );
+    let backend = operand(alloc, "backend", "BACKEND", "The backend");
+    let state = operand(alloc, "state", "STATE", STATE);
+    let dump = operand(alloc, "dump", "DUMP", DUMP);
+    let plan = operand(alloc, "plan", "PLAN", "File that holds the plan's text");
+    with_arguments(with_arguments(commands, backend, state)?, dump, plan)
 }
 
 fn check<'a>(alloc: Global) -> Result<Command<'a>, AllocError>

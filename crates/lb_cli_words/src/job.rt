@@ -22,6 +22,19 @@ pub enum Job<'a> {
     Format {
         file: &'a str,
     },
+    /// `sheet <target> <state> <dump>`: print the sheet of what a table of HAProxy's holds, in which the target, `BACKEND/SERVER`, takes no clients.
+    Sheet {
+        target: &'a str,
+        state: &'a str,
+        dump: &'a str,
+    },
+    /// `commands <backend> <state> <dump> <plan>`: print commands for HAProxy that make the plan in the file so.
+    Commands {
+        backend: &'a str,
+        state: &'a str,
+        dump: &'a str,
+        plan: &'a str,
+    },
     /// `check -f <file>`: check the configuration in the file, up to its first fault.
     Check {
         file: &'a str,

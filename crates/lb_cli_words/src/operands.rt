@@ -1,7 +1,7 @@
 //! Operands: the words after a command that are no options.
 ghost use Rattle.std.specs.Prelude.{◌≡◌};
 ghost use Rattle.lb_cli_words.specs.Words.{asks_help_within, exactly, operands_of, texts};
-ghost use Rattle.lb_cli_words.specs.Given.{nothing_if, one_of, two_of};
+ghost use Rattle.lb_cli_words.specs.Given.{four_of, nothing_if, one_of, three_of, two_of};
 
 use crate::word::{ends_options, is_help, is_operand, is_option};
 
@@ -40,6 +40,36 @@ pub(crate) fn two_operands<'a>(words: &[&'a str]) -> Option<(&'a str, &'a str)>
     Some((*word, one_operand(rest)?))
 }
 
+/// The three operands, where there are three.
+pub(crate) fn three_operands<'a>(words: &[&'a str]) -> Option<(&'a str, &'a str, &'a str)>
+    ensures { three_of result ≡ operands_of 3 (texts words.now) }
+{
+    let (word, rest) = words.split_first()?;
+    if ends_options(word) {
+        return three_words(rest);
+    }
+    if is_option(word) {
+        return None;
+    }
+    let (second, third) = two_operands(rest)?;
+    Some((*word, second, third))
+}
+
+/// The four operands, where there are four.
+pub(crate) fn four_operands<'a>(words: &[&'a str]) -> Option<(&'a str, &'a str, &'a str, &'a str)>
+    ensures { four_of result ≡ operands_of 4 (texts words.now) }
+{
+    let (word, rest) = words.split_first()?;
+    if ends_options(word) {
+        return four_words(rest);
+    }
+    if is_option(word) {
+        return None;
+    }
+    let (second, third, fourth) = three_operands(rest)?;
+    Some((*word, second, third, fourth))
+}
+
 fn one_word<'a>(words: &[&'a str]) -> Option<&'a str>
     ensures { one_of result ≡ exactly 1 (texts words.now) }
 {
@@ -54,6 +84,24 @@ fn two_words<'a>(words: &[&'a str]) -> Option<(&'a str, &'a str)>
 {
     match words {
         [first, second] => Some((*first, *second)),
+        _ => None,
+    }
+}
+
+fn three_words<'a>(words: &[&'a str]) -> Option<(&'a str, &'a str, &'a str)>
+    ensures { three_of result ≡ exactly 3 (texts words.now) }
+{
+    match words {
+        [first, second, third] => Some((*first, *second, *third)),
+        _ => None,
+    }
+}
+
+fn four_words<'a>(words: &[&'a str]) -> Option<(&'a str, &'a str, &'a str, &'a str)>
+    ensures { four_of result ≡ exactly 4 (texts words.now) }
+{
+    match words {
+        [first, second, third, fourth] => Some((*first, *second, *third, *fourth)),
         _ => None,
     }
 }

@@ -3,11 +3,13 @@ ghost use Rattle.std.specs.Prelude.{◌≡◌, ◌∷◌, [], IfSome, IsSome, op
 ghost use Rattle.lb_cli_words.specs.Given.{given_of};
 ghost use Rattle.lb_cli_words.specs.Words.{asks_help_after, asks_help_with, files_with, flagged, in_turn, texts};
 ghost use Rattle.lb_cli_words.specs.Table.{asks_help, asks_help_behind, asks_help_beside, check_asks_help, flag_and_file, reader_of, row_behind, row_in, row_of};
-ghost use Rattle.lb_cli_words.specs.Table.{check_row, format_row, plan_row, replay_row, run_row, verify_row, version_row};
+ghost use Rattle.lb_cli_words.specs.Table.{check_row, commands_row, format_row, sheet_row, plan_row, replay_row, run_row, verify_row, version_row};
 ghost use Rattle.lb_cli_words.specs.declared.own_option.OwnOption.TheVariants.{File};
 
 use crate::Job;
-use crate::operands::{asks_help_within, is_end, one_operand, two_operands};
+use crate::operands::{
+    asks_help_within, four_operands, is_end, one_operand, three_operands, two_operands,
+};
 use crate::own_option::{Given, OwnOption, read_flag};
 use crate::run_options::RunOptions;
 use crate::word::is_help;
@@ -28,6 +30,8 @@ fn job_behind<'a>(command: &str, words: &'a [&'a str]) -> Option<Job<'a>>
         "verify" => verify(words),
         "plan" => plan(words),
         "format" => format(words),
+        "sheet" => sheet(words),
+        "commands" => move_lines(words),
         "check" => check(words),
         "replay" => replay(words),
         "run" => run(words),
@@ -62,6 +66,29 @@ fn format<'a>(words: &'a [&'a str]) -> Option<Job<'a>>
 {
     let file = one_operand(words)?;
     Some(Job::Format { file })
+}
+
+fn sheet<'a>(words: &'a [&'a str]) -> Option<Job<'a>>
+    ensures { option_map row_of result ≡ sheet_row (texts words.now) }
+{
+    let (target, state, dump) = three_operands(words)?;
+    Some(Job::Sheet {
+        target,
+        state,
+        dump,
+    })
+}
+
+fn move_lines<'a>(words: &'a [&'a str]) -> Option<Job<'a>>
+    ensures { option_map row_of result ≡ commands_row (texts words.now) }
+{
+    let (backend, state, dump, plan) = four_operands(words)?;
+    Some(Job::Commands {
+        backend,
+        state,
+        dump,
+        plan,
+    })
 }
 
 fn check<'a>(words: &'a [&'a str]) -> Option<Job<'a>>
@@ -167,6 +194,8 @@ fn asks_help_behind(command: &str, words: &[&str]) -> bool
         "verify" => asks_help_within(1, words) || OwnOption::Sheet.asks_help(words),
         "plan" => asks_help_within(1, words) || OwnOption::Table.asks_help(words),
         "format" => asks_help_within(1, words),
+        "sheet" => asks_help_within(3, words),
+        "commands" => asks_help_within(4, words),
         "check" => check_asks_help(words),
         "replay" => asks_help_within(2, words),
         "run" => asks_help_within(0, RunOptions::read(words).rest),

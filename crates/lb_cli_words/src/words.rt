@@ -47,6 +47,8 @@ fn plain_request(words: &[&str]) -> &'static [&'static str]
         [_, "verify", ..] => &["stickylb", "verify", "--help"],
         [_, "plan", ..] => &["stickylb", "plan", "--help"],
         [_, "format", ..] => &["stickylb", "format", "--help"],
+        [_, "sheet", ..] => &["stickylb", "sheet", "--help"],
+        [_, "commands", ..] => &["stickylb", "commands", "--help"],
         [_, "replay", ..] => &["stickylb", "replay", "--help"],
         [_, "check", ..] => &["stickylb", "check", "--help"],
         [_, "run", ..] => &["stickylb", "run", "--help"],

@@ -44,6 +44,8 @@ fn perform(rt: &HostRuntime, job: Job<'_>) -> Option<u8> {
         Job::Version => Some(tell_version(out, err)),
         Job::Check { .. }
         | Job::CheckAll { .. }
+        | Job::Sheet { .. }
+        | Job::Commands { .. }
         | Job::CheckHaproxy { .. }
         | Job::Replay { .. }
         | Job::Run { .. }

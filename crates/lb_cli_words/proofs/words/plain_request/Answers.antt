@@ -14,6 +14,14 @@ pub returns-in-format : goal.returns-in-format
 unfolding clap_on_literals
 returns-in-format c = refl
 
+pub returns-in-sheet : goal.returns-in-sheet
+unfolding clap_on_literals
+returns-in-sheet c = refl
+
+pub returns-in-commands : goal.returns-in-commands
+unfolding clap_on_literals
+returns-in-commands c = refl
+
 pub returns-in-replay : goal.returns-in-replay
 unfolding clap_on_literals
 returns-in-replay c = refl
