@@ -2,6 +2,7 @@
 use Rattle.std.specs.Prelude.{◌≡◌, ◌⊎◌, ℕ, Bool, true, false, List, ◌++◌, Option, Some, None, Result, Ok, Err, option_map, codes}
 use Rattle.std.specs.Io.KnownBytes.{Appends}
 use Rattle.lb_cli_faults.specs.Faults.{fault_line}
+use Rattle.lb_types_counted.specs.Writers.{Rises, WriterState}
 use Rattle.lb_config.specs.ConfigViews.{ConfigView}
 use Rattle.lb_config_sections.specs.declared.cause.LocatedFault.{LocatedFault}
 use Rattle.lb_run_doors.specs.Handed.{handed_line}
@@ -65,3 +66,7 @@ RunsText pins (Err fault) is_done old_out new_out old_err new_err = PrintsFault 
 abbrev pub IsConfigText : Result ConfigView LocatedFault → Type 0
 IsConfigText (Ok config) = Unit {0}
 IsConfigText (Err fault) = ⊥
+
+-- a write to standard output or to standard error failed
+abbrev pub HasFailed : (old_out new_out old_err new_err : WriterState) → Type 0
+HasFailed old_out new_out old_err new_err = Rises old_out.failures new_out.failures ⊎ Rises old_err.failures new_err.failures

@@ -27,18 +27,33 @@ pub enum RunFault {
 }
 
 impl From<AllocError> for RunFault {
+    ghost use Rattle.std.specs.Prelude.{◌≡◌};
+    ghost use Rattle.lb_run.specs.declared.fault.RunFault.TheVariants.{Memory};
+
+    ghost from_gives = { λ _ fault. fault ≡ Memory };
+
     fn from(_: AllocError) -> Self {
         RunFault::Memory
     }
 }
 
 impl<T: Drop> From<AllocFailed<T>> for RunFault {
+    ghost use Rattle.std.specs.Prelude.{◌≡◌};
+    ghost use Rattle.lb_run.specs.declared.fault.RunFault.TheVariants.{Memory};
+
+    ghost from_gives = { λ _ fault. fault ≡ Memory };
+
     fn from(_: AllocFailed<T>) -> Self {
         RunFault::Memory
     }
 }
 
 impl From<BindFault> for RunFault {
+    ghost use Rattle.std.specs.Prelude.{◌≢◌};
+    ghost use Rattle.lb_run.specs.declared.fault.RunFault.TheVariants.{CannotWrite};
+
+    ghost from_gives = { λ _ fault. fault ≢ CannotWrite };
+
     fn from(fault: BindFault) -> Self {
         match fault {
             BindFault::CannotBind(address) => RunFault::Bind(address),

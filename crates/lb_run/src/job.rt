@@ -1,6 +1,7 @@
 ghost use Rattle.std.specs.Prelude.{◌≡◌, None, IfOk, IsErrOf};
 ghost use Rattle.lb_config.specs.Configs.{config_in};
-ghost use Rattle.lb_run.specs.Jobs.{Hinders, HindersByPins, IsConfigText, IsHindrance, IsPinsHindrance, PrintsFault, Runs, RunsText};
+ghost use Rattle.lb_types_counted.specs.Writers.{Rises};
+ghost use Rattle.lb_run.specs.Jobs.{Hinders, HindersByPins, HasFailed, IsConfigText, IsHindrance, IsPinsHindrance, PrintsFault, Runs, RunsText};
 ghost use Rattle.lb_run.specs.Jobs.{bind_line, path_of, pins_line, unread_line};
 
 use crate::{Kept, PinsPlace, RunFault, run_config_keeping};
@@ -11,6 +12,7 @@ use lb_desk_ports::OpenGate;
 use lb_run_doors::handed_line;
 use lb_run_floor::Host;
 use lb_run_pins::{PinsFault, TextFault, TextFiles, read_pins};
+use lb_types::Counted;
 use std::alloc::{AllocError, Global};
 use std::env::Env;
 use std::fs::Files;
@@ -20,17 +22,18 @@ use std::io::Write;
 /// prints it. An address that can't be bound, and a socket that was handed over and can't be used, are printed on `err`.
 ///
 /// `OutOfMemory`: for the configuration, before anything ran, or in the run, whose threads were ended. `CannotRead`: the system's clock
-/// or its random numbers, before anything ran. `CannotWrite`: what is printed.
+/// or its random numbers, before anything ran. `CannotWrite`: what is printed, since a write failed.
 pub fn run_text<R: Host + Files + TextFiles + Env, O: Write, E: Write>(
     rt: &R,
     alloc: Global,
     text: &[u8],
-    out: &mut O,
-    err: &mut E,
+    out: &mut Counted<O>,
+    err: &mut Counted<E>,
 ) -> Result<bool, JobError>
     ensures runs { IfOk result (λ is_done. RunsText None (config_in text.now) is_done
-        (O.contents out.old) (O.contents out.new) (E.contents err.old) (E.contents err.new)) }
+        out.old.contents out.new.contents err.old.contents err.new.contents) }
     ensures cannot_read { IsErrOf result JobError.CannotRead → IsConfigText (config_in text.now) }
+    ensures cannot_write { IsErrOf result JobError.CannotWrite → HasFailed out.old out.new err.old err.new }
 {
     run_text_keeping(rt, alloc, text, None, out, err)
 }
@@ -42,12 +45,13 @@ pub fn run_text_keeping<R: Host + Files + TextFiles + Env, O: Write, E: Write>(
     alloc: Global,
     text: &[u8],
     place: Option<PinsPlace<'_>>,
-    out: &mut O,
-    err: &mut E,
+    out: &mut Counted<O>,
+    err: &mut Counted<E>,
 ) -> Result<bool, JobError>
     ensures runs { IfOk result (λ is_done. RunsText (path_of place.entry) (config_in text.now) is_done
-        (O.contents out.old) (O.contents out.new) (E.contents err.old) (E.contents err.new)) }
+        out.old.contents out.new.contents err.old.contents err.new.contents) }
     ensures cannot_read { IsErrOf result JobError.CannotRead → IsConfigText (config_in text.now) }
+    ensures cannot_write { IsErrOf result JobError.CannotWrite → HasFailed out.old out.new err.old err.new }
 {
     match read_config(alloc, text) {
         Ok(config) => read_and_run(rt, alloc, &config, place, out, err),
@@ -62,11 +66,12 @@ fn read_and_run<R: Host + Files + TextFiles + Env, O: Write, E: Write>(
     alloc: Global,
     config: &Config,
     place: Option<PinsPlace<'_>>,
-    out: &mut O,
-    err: &mut E,
+    out: &mut Counted<O>,
+    err: &mut Counted<E>,
 ) -> Result<bool, JobError>
-    ensures { IfOk result (λ is_done. Runs (path_of place.entry) config.now is_done
-        (O.contents out.old) (O.contents out.new) (E.contents err.old) (E.contents err.new)) }
+    ensures runs { IfOk result (λ is_done. Runs (path_of place.entry) config.now is_done
+        out.old.contents out.new.contents err.old.contents err.new.contents) }
+    ensures cannot_write { IsErrOf result JobError.CannotWrite → HasFailed out.old out.new err.old err.new }
 {
     let Some(place) = place else {
         return run_and_report(rt, alloc, config, None, out, err);
@@ -88,11 +93,12 @@ fn run_and_report<R: Host + Files + TextFiles + Env, O: Write, E: Write>(
     alloc: Global,
     config: &Config,
     kept: Option<Kept<'_>>,
-    out: &mut O,
-    err: &mut E,
+    out: &mut Counted<O>,
+    err: &mut Counted<E>,
 ) -> Result<bool, JobError>
-    ensures { IfOk result (λ is_done. Runs None config.now is_done
-        (O.contents out.old) (O.contents out.new) (E.contents err.old) (E.contents err.new)) }
+    ensures runs { IfOk result (λ is_done. Runs None config.now is_done
+        out.old.contents out.new.contents err.old.contents err.new.contents) }
+    ensures cannot_write { IsErrOf result JobError.CannotWrite → HasFailed out.old out.new err.old err.new }
 {
     match run_config_keeping(rt, alloc, config, kept, OpenGate, out) {
         Ok(()) => Ok(true),
@@ -140,9 +146,14 @@ fn pins_line(alloc: Global, path: &str, fault: TextFault) -> Result<Vec<u8>, All
 }
 
 /// Prints the configuration's fault.
-fn print_fault<O: Write>(alloc: Global, fault: &LocatedFault, out: &mut O) -> Result<bool, JobError>
-    ensures prints { IfOk result (λ is_done. PrintsFault fault.now is_done (O.contents out.old) (O.contents out.new)) }
+fn print_fault<O: Write>(
+    alloc: Global,
+    fault: &LocatedFault,
+    out: &mut Counted<O>,
+) -> Result<bool, JobError>
+    ensures prints { IfOk result (λ is_done. PrintsFault fault.now is_done out.old.contents out.new.contents) }
     ensures cannot_read { IsErrOf result JobError.CannotRead → ⊥ }
+    ensures cannot_write { IsErrOf result JobError.CannotWrite → Rises out.old.failures out.new.failures }
 {
     let line = config_fault_line(alloc, fault)?;
     match out.write_all(&line) {
@@ -152,9 +163,10 @@ fn print_fault<O: Write>(alloc: Global, fault: &LocatedFault, out: &mut O) -> Re
 }
 
 /// Prints on standard error what was in the way.
-fn print_hindrance<E: Write>(err: &mut E, line: &[u8]) -> Result<bool, JobError>
+fn print_hindrance<E: Write>(err: &mut Counted<E>, line: &[u8]) -> Result<bool, JobError>
     requires { IsHindrance line.now }
-    ensures { IfOk result (λ is_done. Hinders is_done (E.contents err.old) (E.contents err.new)) }
+    ensures hinders { IfOk result (λ is_done. Hinders is_done err.old.contents err.new.contents) }
+    ensures cannot_write { IsErrOf result JobError.CannotWrite → Rises err.old.failures err.new.failures }
 {
     match err.write_all(line) {
         Ok(()) => Ok(false),
@@ -163,9 +175,14 @@ fn print_hindrance<E: Write>(err: &mut E, line: &[u8]) -> Result<bool, JobError>
 }
 
 /// Prints on standard error why this file of pins wasn't read.
-fn print_pins_fault<E: Write>(err: &mut E, path: &str, line: &[u8]) -> Result<bool, JobError>
+fn print_pins_fault<E: Write>(
+    err: &mut Counted<E>,
+    path: &str,
+    line: &[u8],
+) -> Result<bool, JobError>
     requires { IsPinsHindrance path.now line.now }
-    ensures { IfOk result (λ is_done. HindersByPins path.now is_done (E.contents err.old) (E.contents err.new)) }
+    ensures hinders { IfOk result (λ is_done. HindersByPins path.now is_done err.old.contents err.new.contents) }
+    ensures cannot_write { IsErrOf result JobError.CannotWrite → Rises err.old.failures err.new.failures }
 {
     match err.write_all(line) {
         Ok(()) => Ok(false),

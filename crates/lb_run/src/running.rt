@@ -1,4 +1,5 @@
-ghost use Rattle.std.specs.Prelude.{map, OnOk};
+ghost use Rattle.std.specs.Prelude.{map, IsErrOf, OnOk};
+ghost use Rattle.lb_types_counted.specs.Writers.{Rises};
 ghost use Rattle.lb_run_floor.specs.Places.{AreAt};
 ghost use Rattle.lb_run.specs.Runs.{EndsClosed, opened_as};
 ghost use Rattle.lb_run_desks.specs.NewDesks.{AreNamed, Open};
@@ -20,6 +21,7 @@ use lb_run_pins::{
     PinsPlace, TextFiles, greatest_age_of, return_kept, save, set_back, start_saving,
 };
 use lb_run_threads::{Started, start};
+use lb_types::Counted;
 use std::alloc::Global;
 use std::env::Env;
 use std::fs::Files;
@@ -40,9 +42,10 @@ pub fn run_config<R: Host + Files + TextFiles + Env, W: Write>(
     rt: &R,
     alloc: Global,
     config: &Config,
-    out: &mut W,
+    out: &mut Counted<W>,
 ) -> Result<(), RunFault>
-    ensures closed { OnOk result (EndsClosed config.now.backends (W.contents out.old) (W.contents out.new)) }
+    ensures closed { OnOk result (EndsClosed config.now.backends out.old.contents out.new.contents) }
+    ensures cannot_write { IsErrOf result RunFault.CannotWrite → Rises out.old.failures out.new.failures }
 {
     run_config_keeping(rt, alloc, config, None, OpenGate, out)
 }
@@ -53,9 +56,10 @@ pub fn run_config_past<R: Host + Files + TextFiles + Env, G: SharedGate<R>, W: W
     alloc: Global,
     config: &Config,
     gate: G,
-    out: &mut W,
+    out: &mut Counted<W>,
 ) -> Result<(), RunFault>
-    ensures closed { OnOk result (EndsClosed config.now.backends (W.contents out.old) (W.contents out.new)) }
+    ensures closed { OnOk result (EndsClosed config.now.backends out.old.contents out.new.contents) }
+    ensures cannot_write { IsErrOf result RunFault.CannotWrite → Rises out.old.failures out.new.failures }
 {
     run_config_keeping(rt, alloc, config, None, gate, out)
 }
@@ -69,9 +73,10 @@ pub fn run_config_keeping<R: Host + Files + TextFiles + Env, G: SharedGate<R>, W
     config: &Config,
     kept: Option<Kept<'_>>,
     gate: G,
-    out: &mut W,
+    out: &mut Counted<W>,
 ) -> Result<(), RunFault>
-    ensures closed { OnOk result (EndsClosed config.now.backends (W.contents out.old) (W.contents out.new)) }
+    ensures closed { OnOk result (EndsClosed config.now.backends out.old.contents out.new.contents) }
+    ensures cannot_write { IsErrOf result RunFault.CannotWrite → Rises out.old.failures out.new.failures }
 {
     let _held = hold_closed_streams(rt);
     let handed = handed_over(rt, alloc)?;
@@ -105,11 +110,12 @@ fn run_named<R: Host + Files + TextFiles, B: Naming + Send + Sync, G: SharedGate
     desks: Vec<NewDesk<RandomState>>,
     doors: Doors,
     gate: G,
-    out: &mut W,
+    out: &mut Counted<W>,
 ) -> Result<(), RunFault>
     requires names { AreNamed B.table_of B.opening B.journal_size desks.items }
     requires opened { Open config.now.backends desks.items }
-    ensures closed { OnOk result (EndsClosed config.now.backends (W.contents out.old) (W.contents out.new)) }
+    ensures closed { OnOk result (EndsClosed config.now.backends out.old.contents out.new.contents) }
+    ensures cannot_write { IsErrOf result RunFault.CannotWrite → Rises out.old.failures out.new.failures }
 {
     let desks = named_desks::<RandomState, B>(alloc, desks)?;
     let passes = PassBox::new(alloc, most_passes(config, start.kept.is_some()))?;
@@ -138,6 +144,7 @@ fn serve<R: Host + Files + TextFiles, B: Naming + Send + Sync, G: SharedGate<R>>
     gate: G,
 ) -> Result<(), RunFault>
     requires places { AreAt config.now.backends (map (opened_as B.opening B.journal_size) desks.now) }
+    ensures unwritten { IsErrOf result RunFault.CannotWrite → ⊥ }
 {
     let desks = RunDesks {
         alloc,

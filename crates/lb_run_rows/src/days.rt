@@ -2,6 +2,7 @@ use crate::farm::{Sockets, ask, free_port, local, originate};
 use http_relay_listen::listen;
 use lb_config::{Config, read_config};
 use lb_run::{Host, TextFiles, run_config, run_text};
+use lb_types::Counted;
 use std::alloc::Global;
 use std::env::Env;
 use std::fs::Files;
@@ -72,9 +73,9 @@ fn run<R: Host + Files + TextFiles + Env>(
     config: &Config,
     _sockets: Sockets,
 ) -> (bool, Vec<u8>) {
-    let mut out = Vec::new(alloc);
+    let mut out = Counted::new(Vec::new(alloc));
     let done = run_config(rt, alloc, config, &mut out);
-    (done.is_ok(), out)
+    (done.is_ok(), out.into_inner())
 }
 
 // A client stays at its server, a drain with a plan moves it, and at the end each event has its receipt: four for each request, one for
@@ -140,11 +141,11 @@ fn an_address_that_is_taken_is_named(rt: HostRuntime) -> Result<(), Fail> {
     let taken = listen(&rt, local(0))?;
     let port = taken.local_addr()?.port();
     let text = format!(in alloc; "listen web\n  bind 127.0.0.1:{port}\n  server a 127.0.0.1:1\n")?;
-    let mut out = Vec::new(alloc);
-    let mut err = Vec::new(alloc);
+    let mut out = Counted::new(Vec::new(alloc));
+    let mut err = Counted::new(Vec::new(alloc));
     let done = run_text(&rt, alloc, text.as_bytes(), &mut out, &mut err);
     let told = format!(in alloc; "cannot bind 127.0.0.1:{port}\n")?;
-    assert!(rt; matches!(done, Ok(false)) && out.is_empty());
-    assert_eq!(rt; err.as_slice(), told.as_bytes());
+    assert!(rt; matches!(done, Ok(false)) && out.into_inner().is_empty());
+    assert_eq!(rt; err.into_inner().as_slice(), told.as_bytes());
     Ok(())
 }

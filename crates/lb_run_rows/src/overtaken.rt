@@ -4,6 +4,7 @@ use http_relay_listen::listen;
 use lb_config::{Config, read_config};
 use lb_desk_ports::{Gate, Point};
 use lb_run::{Host, TextFiles, run_config_past};
+use lb_types::Counted;
 use std::alloc::Global;
 use std::env::Env;
 use std::fs::Files;
@@ -137,9 +138,9 @@ fn run<R: Host + Files + TextFiles + Env>(
     counts: &Counts,
     _sockets: Sockets,
 ) -> (bool, Vec<u8>) {
-    let mut out = Vec::new(alloc);
+    let mut out = Counted::new(Vec::new(alloc));
     let done = run_config_past(rt, alloc, config, Meeting { counts }, &mut out);
-    (done.is_ok(), out)
+    (done.is_ok(), out.into_inner())
 }
 
 /// Whether the journal's events, except for those that clients' connections make beside, are the expected ones.

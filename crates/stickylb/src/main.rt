@@ -5,6 +5,7 @@
 use lb_cli::{KeptPins, Performed, end, perform};
 use lb_cli_start::{asked_job, command_line, texts_of};
 use lb_run::{PinsPlace, run_text_keeping};
+use lb_types::Counted;
 use std::marker::PhantomData;
 use std::net::{TcpListener, TcpStream};
 use std::process::ExitCode;
@@ -24,7 +25,8 @@ fn main(rt: HostRuntime) -> ExitCode {
     };
     // The prover wants the types of sockets named where threads get them.
     let _sockets: PhantomData<(TcpListener, TcpStream)> = PhantomData;
-    let (mut out, mut err) = (rt.stdout(), rt.stderr());
+    let mut out = Counted::new(rt.stdout());
+    let mut err = Counted::new(rt.stderr());
     match perform(rt.alloc(), &rt, job, &mut out, &mut err) {
         Performed::Ended(status) => ExitCode::from(status),
         Performed::Run { file, text, pins } => {

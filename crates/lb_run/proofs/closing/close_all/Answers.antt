@@ -35,16 +35,17 @@ loop-desk-preserved g c =
       (
         c.loop-desk.invariant.4.0 ++ c.in_ok-line.line.items,
         closed_more c.loop-desk.place c.args.config.now.backends c.index-backends-place.result c.loop-desk.invariant.4.0 c.in_ok-line.line.items
-            (subst (λ (n : ℕ). c.loop-desk.place < n) many inside) at c.loop-desk.invariant.4.1 c.in_ok-line.ensures,
-        subst (λ (bytes : List ℕ). Appends (g.W.Write.contents c.args.out.now) (g.W.Write.contents c.write_line.new.out)
+            (subst (λ (n : ℕ). c.loop-desk.place < n) many inside) at c.loop-desk.invariant.4.1 c.in_ok-line.ensures.closed,
+        subst (λ (bytes : List ℕ). Appends c.args.out.now.contents c.write_line.new.out.contents
             (c.loop-desk.invariant.4.0 ++ bytes)) c.deref.ensures.value
-            (appends_both (g.W.Write.contents c.args.out.now) (g.W.Write.contents c.loop-desk.out) (g.W.Write.contents c.write_line.new.out)
-            c.loop-desk.invariant.4.0 c.deref.result.now c.loop-desk.invariant.4.2 c.in_ok-write_line.ensures),
+            (appends_both c.args.out.now.contents c.loop-desk.out.contents c.write_line.new.out.contents
+            c.loop-desk.invariant.4.0 c.deref.result.now c.loop-desk.invariant.4.2 c.in_ok-write_line.ensures.whole.whole),
       ),
+      omega (arith, c.loop-desk.invariant.5, c.in_ok-write_line.ensures.whole.failures),
     )
 
-pub returns : goal.returns
-returns g c =
+pub returns-clause-closed : goal.returns-clause-closed
+returns-clause-closed g c =
     let none : length c.loop-desk.desk-iterator.rest.items ≡ 0 = omega (arith, c.loop-desk.desk-iterator.rest.ok.0, c.in-None.ensures.steps.0) in
     let all : c.loop-desk.yielded ≡ c.args.desks.items =
     all_done c.loop-desk.yielded c.loop-desk.desk-iterator.rest.items c.args.desks.items c.loop-desk.invariant.2 none in

@@ -1,4 +1,4 @@
-use Rattle.std.proofs.Common.{◌≡◌, ◌++◌, ℕ, List, length, take}
+use Rattle.std.proofs.Common.{◌≡◌, ◌≤◌, ◌++◌, ℕ, List, length, take}
 use Rattle.std.specs.Io.KnownBytes.{Appends}
 use Rattle.lb_run.specs.Runs.{AllClosed}
 use Rattle.lb_run.proofs.closing.close_all.Given as goal
@@ -11,4 +11,5 @@ invariant-loop-desk g l =
     (l.yielded ++ l.desk-iterator.rest.items ≡ l.fn.desks.items) ×
     (l.place ≡ length l.yielded) ×
     ((text : List ℕ) × AllClosed (take l.place l.fn.config.backends) text
-    × Appends (g.W.Write.contents l.fn.out) (g.W.Write.contents l.out) text)
+    × Appends l.fn.out.contents l.out.contents text) ×
+    (l.fn.out.failures ≤ l.out.failures)

@@ -5,7 +5,7 @@ use Rattle.lb_run.proofs.job.run_text_keeping.Goals as goal
 
 pub returns-in-Ok-clause-runs : goal.returns-in-Ok-clause-runs
 returns-in-Ok-clause-runs g c =
-    ran c.read_and_run.result _ (config_in c.args.text.now) c.in-Ok.config _ _ _ _ c.in-Ok.ensures c.read_and_run.ensures
+    ran c.read_and_run.result _ (config_in c.args.text.now) c.in-Ok.config _ _ _ _ c.in-Ok.ensures c.read_and_run.ensures.runs
 
 pub returns-in-Ok-clause-cannot_read : goal.returns-in-Ok-clause-cannot_read
 returns-in-Ok-clause-cannot_read g c = λ wrong. is_config (config_in c.args.text.now) c.in-Ok.config c.in-Ok.ensures
