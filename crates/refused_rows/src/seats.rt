@@ -18,6 +18,7 @@ use std::marker::Brand;
 use std::process::Abort;
 use std::sync::Wait;
 use std::test::Fail;
+use std::time::Clock;
 
 /// More entries than the test makes.
 const JOURNAL: u32 = 100;
@@ -30,7 +31,7 @@ fn an_evacuation(rt: HostRuntime) -> Result<(), Fail> {
     at_a_desk::<_, Brand, _>(&rt, rt.alloc(), opened, &backend, hasher)
 }
 
-fn at_a_desk<S: BuildHasher + Drop, N: Naming, R: Wait + Abort>(
+fn at_a_desk<S: BuildHasher + Drop, N: Naming, R: Wait + Clock + Abort>(
     rt: &R,
     alloc: Global,
     opened: Opened<Entry>,
@@ -47,7 +48,7 @@ fn at_a_desk<S: BuildHasher + Drop, N: Naming, R: Wait + Abort>(
 }
 
 /// All calls come from one seat.
-fn at_a_seat<S: BuildHasher, N: Naming, R: Wait + Abort>(
+fn at_a_seat<S: BuildHasher, N: Naming, R: Wait + Clock + Abort>(
     rt: &R,
     alloc: Global,
     desk: &SharedDesk<S, N>,
